@@ -1,0 +1,2 @@
+-- The laws of exclusive or.
+pub mod Xor

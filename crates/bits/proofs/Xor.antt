@@ -1,0 +1,77 @@
+-- The laws of exclusive or: it is associative and commutative, 0 changes nothing, each number undoes itself, and no bit is added.
+-- `simp xors` closes an identity of ⊕. Assumes nothing.
+use mathlib.Core.Path.{_≡_, refl, sym, ap, ap₂, _∙_}
+use Prim.Native.Nat.{ℕ, zero, suc, _+_, _*_, _/_, _%_, _^_, _<_}
+use native.Mathlib.Nat.{mod-lt}
+use native.Mathlib.Omega.{arith}
+use lib.Dec.{lit<}
+use lib.Arith.{bin-ind}
+use lib.Bits.{bitXor, differ, xor-step, xor-zero-r, xor-comm, xor-self, xor-lt, xor-shr, xor-mod, xor-block}
+use Rattle.bits.specs.Xor.{_⊕_}
+
+-- what holds of 0 and of 1 holds of every lowest bit
+pub bit-ind : (P : ℕ → Type 0) → P 0 → P 1 → (n : ℕ) → P (n % 2)
+bit-ind P p q n = go (n % 2) (mod-lt n (lit< tt))
+  where
+    go : (x : ℕ) → x < 2 → P x
+    go zero h = p
+    go (suc zero) h = q
+    go (suc (suc x)) h = absurd (omega arith)
+
+pub comm : (a b : ℕ) → a ⊕ b ≡ b ⊕ a
+unfolding _⊕_
+comm = xor-comm
+
+pub self : (a : ℕ) → a ⊕ a ≡ 0
+unfolding _⊕_
+self = xor-self
+
+pub zero-l : (a : ℕ) → 0 ⊕ a ≡ a
+unfolding _⊕_
+zero-l a = refl
+
+pub zero-r : (a : ℕ) → a ⊕ 0 ≡ a
+unfolding _⊕_
+zero-r = xor-zero-r
+
+-- the bits above the lowest, and the lowest bit
+pub half : (a b : ℕ) → (a ⊕ b) / 2 ≡ (a / 2) ⊕ (b / 2)
+unfolding _⊕_
+half a b = xor-shr a b 1
+
+pub lowest : (a b : ℕ) → (a ⊕ b) % 2 ≡ differ (a % 2) (b % 2)
+unfolding _⊕_
+lowest a b = xor-mod a b 1 ∙ bit-ind (λ p. bitXor p (b % 2) ≡ differ p (b % 2)) refl (bit-ind (λ q. bitXor 1 q ≡ differ 1 q) refl refl b) a
+
+step : (a b : ℕ) → a ⊕ b ≡ ((a / 2) ⊕ (b / 2)) * 2 + differ (a % 2) (b % 2)
+unfolding _⊕_
+step = xor-step
+
+differ-assoc : (a b c : ℕ) → differ (differ (a % 2) (b % 2)) (c % 2) ≡ differ (a % 2) (differ (b % 2) (c % 2))
+differ-assoc a b c =
+    bit-ind (λ p. differ (differ p (b % 2)) (c % 2) ≡ differ p (differ (b % 2) (c % 2))) refl
+    (bit-ind (λ q. differ (differ 1 q) (c % 2) ≡ differ 1 (differ q (c % 2))) refl (bit-ind (λ r. differ 0 r ≡ differ 1 (differ 1 r)) refl refl c) b)
+    a
+
+pub assoc : (a b c : ℕ) → a ⊕ b ⊕ c ≡ a ⊕ (b ⊕ c)
+assoc =
+    bin-ind (λ a. (b c : ℕ) → a ⊕ b ⊕ c ≡ a ⊕ (b ⊕ c)) (λ b c. simp zero-l)
+    (λ a ih b c. step (a ⊕ b) c ∙ rw (half a b, lowest a b) (rw (ih (b / 2) (c / 2), differ-assoc a b c) (sym (step a (b ⊕ c) ∙ rw (half b c, lowest b c)))))
+
+pub cancel : (a b : ℕ) → a ⊕ (a ⊕ b) ≡ b
+cancel a b = sym (assoc a a b) ∙ rw self (zero-l b)
+
+pub left-comm : (a b c : ℕ) → a ⊕ (b ⊕ c) ≡ b ⊕ (a ⊕ c)
+left-comm a b c = sym (assoc a b c) ∙ rw (comm a b) (assoc b a c)
+
+pub ruleset xors = (assoc, comm, left-comm, self, cancel, zero-l, zero-r)
+
+-- two numbers of a width give one of that width
+pub below : (n : ℕ) {a b : ℕ} → a < 2 ^ n → b < 2 ^ n → a ⊕ b < 2 ^ n
+unfolding _⊕_
+below n {a} {b} h k = xor-lt n a b h k
+
+-- the lowest bits and the bits above them go apart
+pub pair : (a b r s : ℕ) → r < 2 → s < 2 → (a * 2 + r) ⊕ (b * 2 + s) ≡ (a ⊕ b) * 2 + (r ⊕ s)
+unfolding _⊕_
+pair a b r s = xor-block 1 a b r s

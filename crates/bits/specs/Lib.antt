@@ -1,0 +1,2 @@
+-- What the code's bit operations mean.
+pub mod Xor

@@ -1,0 +1,7 @@
+-- Exclusive or, bit by bit: exactly what the code's `^` denotes. Assumes nothing: this is a definition.
+use Prim.Native.Nat.{ℕ}
+use lib.Bits.{bitXor}
+
+infixl 60 _⊕_
+unfoldable pub _⊕_ : ℕ → ℕ → ℕ
+a ⊕ b = bitXor a b
