@@ -43,7 +43,7 @@ pub lowest : (a b : ℕ) → (a ⊕ b) % 2 ≡ differ (a % 2) (b % 2)
 unfolding _⊕_
 lowest a b = xor-mod a b 1 ∙ bit-ind (λ p. bitXor p (b % 2) ≡ differ p (b % 2)) refl (bit-ind (λ q. bitXor 1 q ≡ differ 1 q) refl refl b) a
 
-step : (a b : ℕ) → a ⊕ b ≡ ((a / 2) ⊕ (b / 2)) * 2 + differ (a % 2) (b % 2)
+pub step : (a b : ℕ) → a ⊕ b ≡ ((a / 2) ⊕ (b / 2)) * 2 + differ (a % 2) (b % 2)
 unfolding _⊕_
 step = xor-step
 

@@ -1,0 +1,63 @@
+-- The laws of sums over all choices of masks. Assumes nothing.
+use mathlib.Core.Path.{_≡_, refl, sym, ap, fun-ext, _∙_}
+use mathlib.Core.List.{List, [], _∷_}
+use Prim.Native.Nat.{ℕ, zero, suc, _+_, _^_, _<_}
+use native.Mathlib.Nat.{zero-add}
+use native.Mathlib.Omega.{arith}
+use lib.Pow.{pow-pos, pow-add}
+use Rattle.bits.specs.Xor.{_⊕_}
+use Rattle.bits.proofs.Xor.{zero-l}
+use Rattle.counting.specs.Sum.{sum}
+use Rattle.counting.specs.Choice.{_▸_, over, width, Within, change, total}
+use Rattle.counting.proofs.Sum.{sum-ext, sum-add, sum-const, sum-swap}
+use Rattle.counting.proofs.Shift.{shift}
+use Rattle.counting.proofs.Choice.{within-none, within-more, within-rest, first-rest, change-same, change-at, change-twice}
+
+-- equal terms make equal sums
+pub over-ext : (ws : List ℕ) {f g : (ℕ → ℕ) → ℕ} → ((c : ℕ → ℕ) → Within ws c → f c ≡ g c) → over ws f ≡ over ws g
+unfolding over
+over-ext [] h = h (λ i. 0) within-none
+over-ext (w ∷ ws) h = sum-ext (2 ^ w) (λ r l. over-ext ws (λ c k. h (r ▸ c) (within-more l k)))
+
+pub over-add : (ws : List ℕ) (f g : (ℕ → ℕ) → ℕ) → over ws (λ c. f c + g c) ≡ over ws f + over ws g
+unfolding over
+over-add [] f g = refl
+over-add (w ∷ ws) f g = sum-ext (2 ^ w) (λ r _. over-add ws (λ c. f (r ▸ c)) (λ c. g (r ▸ c))) ∙ sum-add (2 ^ w) _ _
+
+-- a sum over choices and a finite sum change places
+pub over-sum : (ws : List ℕ) (k : ℕ) (f : (ℕ → ℕ) → ℕ → ℕ) → over ws (λ c. sum k (λ r. f c r)) ≡ sum k (λ r. over ws (λ c. f c r))
+unfolding over
+over-sum [] k f = refl
+over-sum (w ∷ ws) k f = sum-ext (2 ^ w) (λ r _. over-sum ws k (λ c. f (r ▸ c))) ∙ sum-swap (2 ^ w) k _
+
+-- two sums over choices are equal if the sums over the mask at one place are, whatever the other masks
+pub over-local : (ws : List ℕ) (i : ℕ) (f g : (ℕ → ℕ) → ℕ)
+    → ((c : ℕ → ℕ) → Within ws c → sum (2 ^ width ws i) (λ r. f (change i r c)) ≡ sum (2 ^ width ws i) (λ r. g (change i r c)))
+    → over ws f ≡ over ws g
+unfolding over width sum
+over-local [] i f g h = simp (change-same i (λ j. 0), zero-add) at (h (λ j. 0) within-none)
+over-local (w ∷ ws) zero f g h =
+    sym (over-sum ws (2 ^ w) (λ c r. f (r ▸ c)))
+    ∙ over-ext ws (λ c k. h (0 ▸ c) (within-more (pow-pos w) k))
+    ∙ over-sum ws (2 ^ w) (λ c r. g (r ▸ c))
+over-local (w ∷ ws) (suc i) f g h =
+    sum-ext (2 ^ w) (λ r l. over-local ws i (λ c. f (r ▸ c)) (λ c. g (r ▸ c)) (λ c k. h (r ▸ c) (within-more l k)))
+
+-- all masks shifted, each by a number of its width: a shifted choice is its first mask shifted, and the rest shifted
+pub over-shift : (ws : List ℕ) (f : (ℕ → ℕ) → ℕ) (d : ℕ → ℕ) → Within ws d → over ws (λ c. f (λ i. c i ⊕ d i)) ≡ over ws f
+unfolding over width
+over-shift [] f d k = ap f (fun-ext (λ i. zero-l (d i) ∙ omega (arith, k .each i)))
+over-shift (w ∷ ws) f d k =
+    sum-ext (2 ^ w) (λ r _. over-ext ws (λ c _. ap f (sym (first-rest (λ i. (r ▸ c) i ⊕ d i)))) ∙ over-shift ws (λ c. f (r ⊕ d 0 ▸ c)) (λ i. d (suc i)) (within-rest k))
+    ∙ shift w (λ r. over ws (λ c. f (r ▸ c))) (k .each 0)
+
+-- one mask shifted
+pub over-shift-one : (ws : List ℕ) (i : ℕ) (f : (ℕ → ℕ) → ℕ) {d : ℕ} → d < 2 ^ width ws i → over ws (λ c. f (change i (c i ⊕ d) c)) ≡ over ws f
+over-shift-one ws i f {d} h =
+    over-local ws i (λ c. f (change i (c i ⊕ d) c)) f (λ c k. simp (change-at, change-twice) (shift (width ws i) (λ r. f (change i r c)) h))
+
+-- how many choices there are
+pub choices : (ws : List ℕ) → over ws (λ c. 1) ≡ 2 ^ total ws
+unfolding over total
+choices [] = refl
+choices (w ∷ ws) = sum-const (2 ^ w) _ ∙ rw (choices ws) (sym (pow-add 2 w (total ws)))

@@ -1,0 +1,3 @@
+-- Finite sums, and sums over all choices of masks.
+pub mod Sum
+pub mod Choice

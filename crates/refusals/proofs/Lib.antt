@@ -1,0 +1,3 @@
+-- The laws of refusals and of their tests.
+pub mod Checks
+pub mod Tests

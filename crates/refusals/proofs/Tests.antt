@@ -1,0 +1,56 @@
+-- The laws of the tests. Assumes nothing.
+use mathlib.Core.Path.{_≡_, refl, sym, ap, _∙_}
+use mathlib.Core.Bool.{Bool, true, false, _||_, true≢false}
+use mathlib.Core.List.{List, [], _∷_}
+use Prim.Native.Nat.{ℕ, zero, suc, _+_, _≤_, _<_}
+use native.Mathlib.Nat.{not-suc-le-zero, le-of-suc-le-suc}
+use native.Mathlib.Numerals.{add-one}
+use native.Mathlib.Omega.{arith}
+use borrow.Author.Tests.{leb-false, ltb-false, le-leb, lt-leb, le-ltb}
+use lib.Dec.{leb, ltb}
+use lib.ListN.{length, getD, drop, drop-of-length-le}
+use lib.Seq.{drop-cons}
+use Rattle.refusals.specs.Tests.{outside, any-from}
+
+-- neither of two tests
+pub neither : (a b : Bool) → (a || b) ≡ false → (a ≡ false) × (b ≡ false)
+neither true b e = absurd (true≢false e)
+neither false b e = (refl, e)
+
+-- a number that is not outside is within
+pub inside : (low high value : ℕ) → outside low high value ≡ false → (low ≤ value) × (value ≤ high)
+unfolding outside
+inside low high value e =
+    let both = neither (ltb value low) (ltb high value) e in
+    (ltb-false value low (both .0), ltb-false high value (both .1))
+
+-- no number is the least or more: the first is less, and so with the rest
+pub all-below : (least x : ℕ) (xs : List ℕ) → any-from least (x ∷ xs) ≡ false → (x < least) × (any-from least xs ≡ false)
+unfolding any-from
+all-below least x xs e =
+    let both = neither (leb least x) (any-from least xs) e in
+    (leb-false least x (both .0), both .1)
+
+pub one-below : (least x : ℕ) (xs : List ℕ) → x < least → any-from least xs ≡ false → any-from least (x ∷ xs) ≡ false
+unfolding any-from
+one-below least x xs h e = rw (lt-leb least x h) e
+
+pub none-below : (least : ℕ) → any-from least [] ≡ false
+unfolding any-from
+none-below least = refl
+
+-- a loop over the list has its rest before it, whose first number stops the search, or does not, or is not there
+rest : (least : ℕ) (xs : List ℕ) (i : ℕ) → i < length xs → any-from least (drop i xs) ≡ (leb least (getD xs i 0) || any-from least (drop (i + 1) xs))
+unfolding any-from
+rest least xs i h = rw (drop-cons xs i 0 h, add-one)
+
+pub rest-stops : (least : ℕ) (xs : List ℕ) (i : ℕ) → i < length xs → least ≤ getD xs i 0 → any-from least xs ≡ any-from least (drop i xs) → true ≡ any-from least xs
+rest-stops least xs i h l e = sym (e ∙ rest least xs i h ∙ rw (le-leb least (getD xs i 0) l))
+
+pub rest-goes : (least : ℕ) (xs : List ℕ) (i : ℕ) → i < length xs → getD xs i 0 < least → any-from least xs ≡ any-from least (drop i xs)
+    → any-from least xs ≡ any-from least (drop (i + 1) xs)
+rest-goes least xs i h l e = e ∙ rest least xs i h ∙ rw (lt-leb least (getD xs i 0) l)
+
+pub rest-ends : (least : ℕ) (xs : List ℕ) (i : ℕ) → length xs ≤ i → any-from least xs ≡ any-from least (drop i xs) → false ≡ any-from least xs
+unfolding any-from
+rest-ends least xs i h e = sym (e ∙ rw (drop-of-length-le xs h))

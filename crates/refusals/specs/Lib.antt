@@ -1,0 +1,3 @@
+-- Refusal numbers, and the tests that decide them.
+pub mod Checks
+pub mod Tests

@@ -1,0 +1,3 @@
+-- The laws of replies, and the proofs of what is promised.
+pub mod Replies
+pub mod Promises

@@ -1,0 +1,3 @@
+-- What the calls on shares hand back, and what is promised of them.
+pub mod Shares
+pub mod Promises
