@@ -1,14 +1,13 @@
 -- Document 03 writes exclusive or, common bits and the count of ones step by step, for a fixed number of bits. Within that number of bits
 -- they are the exact operations, so nothing that is stated with the exact ones is weaker. Assumes nothing.
-use mathlib.Core.Path.{_≡_, refl, sym, ap, ap₂, _∙_}
+use mathlib.Core.Path.{_≡_, refl, sym, _∙_}
 use Prim.Native.Nat.{ℕ, zero, suc, _+_, _*_, _/_, _%_, _^_, _<_, min}
-use native.Mathlib.Nat.{add-comm, mul-comm}
 use native.Mathlib.Omega.{arith}
 use lib.Arith.{lt-one}
-use lib.Bits.{bitAnd, differ, and-step, and-zero-r}
+use lib.Bits.{bitAnd, and-step}
 use lib.Count.{ones, ones-step}
 use Rattle.bits.specs.Xor.{_⊕_}
-use Rattle.bits.proofs.Xor.{bit-ind, step}
+use Rattle.bits.proofs.Xor.{bit-ind, step, odd-sum}
 
 unfoldable pub xor-from : (fuel a b : ℕ) → ℕ
 xor-from zero a b = 0
@@ -27,11 +26,6 @@ turned high low = omega arith
 
 half-below : (k : ℕ) {a : ℕ} → a < 2 ^ suc k → a / 2 < 2 ^ k
 half-below k h = omega arith
-
-odd-sum : (a b : ℕ) → (a + b) % 2 ≡ differ (a % 2) (b % 2)
-odd-sum a b =
-    bit-ind (λ p. a % 2 ≡ p → (a + b) % 2 ≡ differ p (b % 2)) (λ h. omega arith)
-    (bit-ind (λ q. b % 2 ≡ q → a % 2 ≡ 1 → (a + b) % 2 ≡ differ 1 q) (λ k h. omega arith) (λ k h. omega arith) b refl) a refl
 
 common : (a b : ℕ) → (a % 2) * (b % 2) ≡ min (a % 2) (b % 2)
 common a b = bit-ind (λ p. p * (b % 2) ≡ min p (b % 2)) (omega arith) (bit-ind (λ q. 1 * q ≡ min 1 q) refl refl b) a

@@ -1,12 +1,12 @@
 -- The laws of exclusive or: it is associative and commutative, 0 changes nothing, each number undoes itself, and no bit is added.
 -- `simp xors` closes an identity of ⊕. Assumes nothing.
-use mathlib.Core.Path.{_≡_, refl, sym, ap, ap₂, _∙_}
+use mathlib.Core.Path.{_≡_, refl, sym, _∙_}
 use Prim.Native.Nat.{ℕ, zero, suc, _+_, _*_, _/_, _%_, _^_, _<_}
-use native.Mathlib.Nat.{mod-lt}
+use native.Mathlib.Nat.{mod-lt, div-add-mod'}
 use native.Mathlib.Omega.{arith}
 use lib.Dec.{lit<}
 use lib.Arith.{bin-ind}
-use lib.Bits.{bitXor, differ, xor-step, xor-zero-r, xor-comm, xor-self, xor-lt, xor-shr, xor-mod, xor-block}
+use lib.Bits.{bitXor, xor-zero-r, xor-comm, xor-self, xor-lt, xor-shr, xor-mod, xor-block}
 use Rattle.bits.specs.Xor.{_⊕_}
 
 -- what holds of 0 and of 1 holds of every lowest bit
@@ -39,24 +39,31 @@ pub half : (a b : ℕ) → (a ⊕ b) / 2 ≡ (a / 2) ⊕ (b / 2)
 unfolding _⊕_
 half a b = xor-shr a b 1
 
-pub lowest : (a b : ℕ) → (a ⊕ b) % 2 ≡ differ (a % 2) (b % 2)
+pub lowest : (a b : ℕ) → (a ⊕ b) % 2 ≡ (a % 2) ⊕ (b % 2)
 unfolding _⊕_
-lowest a b = xor-mod a b 1 ∙ bit-ind (λ p. bitXor p (b % 2) ≡ differ p (b % 2)) refl (bit-ind (λ q. bitXor 1 q ≡ differ 1 q) refl refl b) a
+lowest a b = xor-mod a b 1
 
-pub step : (a b : ℕ) → a ⊕ b ≡ ((a / 2) ⊕ (b / 2)) * 2 + differ (a % 2) (b % 2)
+pub step : (a b : ℕ) → a ⊕ b ≡ ((a / 2) ⊕ (b / 2)) * 2 + ((a % 2) ⊕ (b % 2))
+step a b = sym (div-add-mod' (a ⊕ b) 2) ∙ rw (half a b, lowest a b)
+
+-- the lowest bit of a sum
+pub odd-sum : (a b : ℕ) → (a + b) % 2 ≡ (a % 2) ⊕ (b % 2)
 unfolding _⊕_
-step = xor-step
+odd-sum a b =
+    bit-ind (λ p. a % 2 ≡ p → (a + b) % 2 ≡ bitXor p (b % 2)) (λ h. omega arith)
+    (bit-ind (λ q. b % 2 ≡ q → a % 2 ≡ 1 → (a + b) % 2 ≡ bitXor 1 q) (λ k h. omega arith) (λ k h. omega arith) b refl) a refl
 
-differ-assoc : (a b c : ℕ) → differ (differ (a % 2) (b % 2)) (c % 2) ≡ differ (a % 2) (differ (b % 2) (c % 2))
-differ-assoc a b c =
-    bit-ind (λ p. differ (differ p (b % 2)) (c % 2) ≡ differ p (differ (b % 2) (c % 2))) refl
-    (bit-ind (λ q. differ (differ 1 q) (c % 2) ≡ differ 1 (differ q (c % 2))) refl (bit-ind (λ r. differ 0 r ≡ differ 1 (differ 1 r)) refl refl c) b)
-    a
+bits-assoc : (a b c : ℕ) → (a % 2) ⊕ (b % 2) ⊕ (c % 2) ≡ (a % 2) ⊕ ((b % 2) ⊕ (c % 2))
+unfolding _⊕_
+bits-assoc a b c =
+    bit-ind (λ p. p ⊕ (b % 2) ⊕ (c % 2) ≡ p ⊕ ((b % 2) ⊕ (c % 2))) refl
+    (bit-ind (λ q. 1 ⊕ q ⊕ (c % 2) ≡ 1 ⊕ (q ⊕ (c % 2))) refl (bit-ind (λ r. 1 ⊕ 1 ⊕ r ≡ 1 ⊕ (1 ⊕ r)) refl refl c) b) a
 
 pub assoc : (a b c : ℕ) → a ⊕ b ⊕ c ≡ a ⊕ (b ⊕ c)
 assoc =
     bin-ind (λ a. (b c : ℕ) → a ⊕ b ⊕ c ≡ a ⊕ (b ⊕ c)) (λ b c. simp zero-l)
-    (λ a ih b c. step (a ⊕ b) c ∙ rw (half a b, lowest a b) (rw (ih (b / 2) (c / 2), differ-assoc a b c) (sym (step a (b ⊕ c) ∙ rw (half b c, lowest b c)))))
+    (λ a ih b c.
+    step (a ⊕ b) c ∙ rw (half a b, lowest a b) (rw (ih (b / 2) (c / 2), bits-assoc a b c) (sym (step a (b ⊕ c) ∙ rw (half b c, lowest b c)))))
 
 pub cancel : (a b : ℕ) → a ⊕ (a ⊕ b) ≡ b
 cancel a b = sym (assoc a a b) ∙ rw self (zero-l b)

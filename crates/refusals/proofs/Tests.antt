@@ -2,7 +2,7 @@
 use mathlib.Core.Path.{_≡_, refl, sym, ap, _∙_}
 use mathlib.Core.Bool.{Bool, true, false, _||_, true≢false}
 use mathlib.Core.List.{List, [], _∷_}
-use Prim.Native.Nat.{ℕ, zero, suc, _+_, _≤_, _<_}
+use Prim.Native.Nat.{ℕ, zero, suc, _+_, _^_, _≤_, _<_}
 use native.Mathlib.Nat.{not-suc-le-zero, le-of-suc-le-suc}
 use native.Mathlib.Numerals.{add-one}
 use native.Mathlib.Omega.{arith}
@@ -23,6 +23,10 @@ unfolding outside
 inside low high value e =
     let both = neither (ltb value low) (ltb high value) e in
     (ltb-false value low (both .0), ltb-false high value (both .1))
+
+pub not-outside : {low high value : ℕ} → low ≤ value → value ≤ high → outside low high value ≡ false
+unfolding outside
+not-outside h k = rw (le-ltb _ _ h, le-ltb _ _ k)
 
 -- no number is the least or more: the first is less, and so with the rest
 pub all-below : (least x : ℕ) (xs : List ℕ) → any-from least (x ∷ xs) ≡ false → (x < least) × (any-from least xs ≡ false)
@@ -54,3 +58,10 @@ rest-goes least xs i h l e = e ∙ rest least xs i h ∙ rw (lt-leb least (getD 
 pub rest-ends : (least : ℕ) (xs : List ℕ) (i : ℕ) → length xs ≤ i → any-from least xs ≡ any-from least (drop i xs) → false ≡ any-from least xs
 unfolding any-from
 rest-ends least xs i h e = sym (e ∙ rw (drop-of-length-le xs h))
+
+-- what a call told of a test, and how the test of its result came out
+pub told : {r t b : Bool} → r ≡ t → r ≡ b → t ≡ b
+told e f = sym e ∙ f
+
+pub told-from : {r b : Bool} (size n : ℕ) (xs : List ℕ) → size ≡ 2 ^ n → r ≡ any-from size xs → r ≡ b → any-from (2 ^ n) xs ≡ b
+told-from size n xs s e f = rw s at (sym e ∙ f)

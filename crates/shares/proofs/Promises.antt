@@ -33,13 +33,13 @@ numbers n a b c rest e =
     let p = passed _ 2 _ e in
     three n a b c rest (p .0) (passed _ 9 _ (p .1) .0)
 
-refusal-of : (k a b c : ℕ) → reply k a b c .refusal ≡ k
+pub refusal-of : (k a b c : ℕ) → reply k a b c .refusal ≡ k
 unfolding reply
 refusal-of zero a b c = refl
 refusal-of (suc k) a b c = refl
 
 -- three numbers of the width join
-joins : (n a b c : ℕ) → outside 1 8 n ≡ false → a < 2 ^ n → b < 2 ^ n → c < 2 ^ n → join n a b c ≡ record { refusal = 0; secret = a ⊕ b ⊕ c }
+pub joins : (n a b c : ℕ) → outside 1 8 n ≡ false → a < 2 ^ n → b < 2 ^ n → c < 2 ^ n → join n a b c ≡ record { refusal = 0; secret = a ⊕ b ⊕ c }
 unfolding join secret-reply width-refusal
 joins n a b c w ha hb hc =
     let small = one-below _ a _ ha (one-below _ b _ hb (one-below _ c _ hc (none-below _))) in

@@ -20,6 +20,11 @@ pub accepted : (k a b c : ℕ) → k ≡ 0 → record { refusal = k; first = a; 
 unfolding reply
 accepted k a b c h = rw h
 
+pub replied-refused : (r : Shares) (j k a b c : ℕ) → r ≡ reply j 0 0 0 → j ≡ k → (j ≡ 0 → ⊥) → r ≡ reply k a b c
+unfolding reply
+replied-refused r zero k a b c e f h = absurd (h refl)
+replied-refused r (suc j) k a b c e f h = e ∙ rw (← f)
+
 pub replied : (r : Shares) (j k a b c : ℕ) → r ≡ reply j a b c → j ≡ k → r ≡ reply k a b c
 replied r j k a b c e f = rw f at e
 
@@ -33,18 +38,18 @@ unfolding secret-reply
 secret-accepted j k x e h = rw (← e, h)
 
 -- the two checks, as the code goes through them
-pub width-wrong : (n : ℕ) (xs : List ℕ) (r : Bool) → r ≡ outside 1 8 n → r ≡ true → 3 ≡ width-refusal n xs
+pub at-3 : (n : ℕ) (xs : List ℕ) → outside 1 8 n ≡ true → 3 ≡ width-refusal n xs
 unfolding width-refusal
-width-wrong n xs r e t = stops 3 _ (sym e ∙ t)
+at-3 n xs t = stops 3 _ t
 
-pub number-wrong : (n size : ℕ) (xs : List ℕ) (r s : Bool) → r ≡ outside 1 8 n → r ≡ false → size ≡ 2 ^ n → s ≡ any-from size xs → s ≡ true → 10 ≡ width-refusal n xs
+pub at-10 : (n : ℕ) (xs : List ℕ) → outside 1 8 n ≡ false → any-from (2 ^ n) xs ≡ true → 10 ≡ width-refusal n xs
 unfolding width-refusal
-number-wrong n size xs r s e f p q t = goes 3 _ (sym e ∙ f) (stops 10 _ (rw p at (sym q ∙ t)))
+at-10 n xs p t = goes 3 _ p (stops 10 _ t)
 
-pub none-wrong : (n size : ℕ) (xs : List ℕ) (r s : Bool) → r ≡ outside 1 8 n → r ≡ false → size ≡ 2 ^ n → s ≡ any-from size xs → s ≡ false → 0 ≡ width-refusal n xs
+pub at-end : (n : ℕ) (xs : List ℕ) → outside 1 8 n ≡ false → any-from (2 ^ n) xs ≡ false → 0 ≡ width-refusal n xs
 unfolding width-refusal
-none-wrong n size xs r s e f p q t = goes 3 _ (sym e ∙ f) (goes 10 _ (rw p at (sym q ∙ t)) ends)
+at-end n xs p t = goes 3 _ p (goes 10 _ t ends)
 
 -- an accepted width leaves room for the shift
-pub width-small : (n : ℕ) (r : Bool) → r ≡ outside 1 8 n → r ≡ false → n < 32
-width-small n r e f = omega (arith, inside 1 8 n (sym e ∙ f))
+pub width-small : (n : ℕ) → outside 1 8 n ≡ false → n < 32
+width-small n p = omega (arith, inside 1 8 n p)

@@ -1,0 +1,3 @@
+-- The linear layer, and what is promised of it.
+pub mod Layer
+pub mod Promises
