@@ -1,0 +1,254 @@
+# The calls, the logs, the counts and the bench print in plain Python, written from the scope document alone.
+# It shares nothing with the proved code, so that a test which compares the two can find a fault in either.
+# Numbers are integers from 0 on; a table, a scratch buffer and rows are lists of bytes; a log is a list of 16-bit entries.
+import itertools
+import re
+from collections import namedtuple
+
+# The numbers of a logged or plain call, in the order of the bench print's case line.
+Case = namedtuple("Case", "method n m x0 r1 r2 s1 s2 r3 b")
+
+
+# Splitting, joining, key addition and the linear layer.
+
+
+def fits(width, numbers):
+    return all(number < 2**width for number in numbers)
+
+
+def width_refusal(width, numbers):
+    if not 1 <= width <= 8:
+        return 3
+    if not fits(width, numbers):
+        return 10
+    return 0
+
+
+def split(width, secret, mask1, mask2):
+    refusal = width_refusal(width, [secret, mask1, mask2])
+    if refusal:
+        return refusal, 0, 0, 0
+    return 0, secret ^ mask1 ^ mask2, mask1, mask2
+
+
+def join(width, share1, share2, share3):
+    refusal = width_refusal(width, [share1, share2, share3])
+    if refusal:
+        return refusal, 0
+    return 0, share1 ^ share2 ^ share3
+
+
+def add_key(width, share1, share2, share3, key1, key2, key3):
+    refusal = width_refusal(width, [share1, share2, share3, key1, key2, key3])
+    if refusal:
+        return refusal, 0, 0, 0
+    return 0, share1 ^ key1, share2 ^ key2, share3 ^ key3
+
+
+def layer_refusal(input_width, output_width, rows, constant, shares):
+    if not 1 <= input_width <= 8:
+        return 3
+    if not 1 <= output_width <= input_width:
+        return 4
+    if len(rows) != output_width:
+        return 8
+    if not fits(input_width, rows) or not fits(output_width, [constant]):
+        return 9
+    if not fits(input_width, shares):
+        return 10
+    return 0
+
+
+# Row i gives bit i: 1 when the row and the input have an odd number of ones in common.
+def mapped(rows, value):
+    return sum(bin(row & value).count("1") % 2 * 2**bit for bit, row in enumerate(rows))
+
+
+def linear_layer(input_width, output_width, rows, constant, share1, share2, share3):
+    refusal = layer_refusal(input_width, output_width, rows, constant, [share1, share2, share3])
+    if refusal:
+        return refusal, 0, 0, 0
+    return 0, mapped(rows, share1) ^ constant, mapped(rows, share2), mapped(rows, share3)
+
+
+# What a logged or plain call refuses.
+
+
+def table_refusal(method, n, m, table):
+    if method not in (2, 3):
+        return 2
+    if not 1 <= n <= 8:
+        return 3
+    if not 1 <= m <= n:
+        return 4
+    if len(table) != 2**n:
+        return 5
+    if not fits(m, table):
+        return 6
+    if any(table.count(value) != 2 ** (n - m) for value in range(2**m)):
+        return 7
+    return 0
+
+
+def mask_refusal(case):
+    if not fits(case.n, [case.x0, case.r1, case.r2, case.r3]):
+        return 10
+    if not fits(case.m, [case.s1, case.s2]):
+        return 11
+    if case.b > {2: 0, 3: 1}[case.method]:
+        return 12
+    return 0
+
+
+def plain_refusal(case, table, scratch):
+    refusal = table_refusal(case.method, case.n, case.m, table) or mask_refusal(case)
+    if refusal:
+        return refusal
+    if len(scratch) < 2**case.n:
+        return 13
+    return 0
+
+
+def log_length(method, n):
+    return 10 + {2: 6, 3: 9}[method] * 2**n
+
+
+def logged_refusal(case, table, scratch, log):
+    refusal = plain_refusal(case, table, scratch)
+    if refusal:
+        return refusal
+    if len(log) < log_length(case.method, case.n):
+        return 14
+    return 0
+
+
+# The two methods. Each takes an accepted case and hands back the answer, the whole scratch and the log as (kind, value) pairs.
+
+
+def run_method_2(case, table, scratch):
+    _, n, _, x0, r1, r2, s1, s2, r3, _ = case
+    scratch = list(scratch)
+    mixed = r1 ^ r3
+    r_prime = mixed ^ r2
+    log = [(10, x0), (1, r1), (2, r2), (3, s1), (4, s2), (5, r3), (6, mixed), (7, r_prime)]
+    for a in range(2**n):
+        place = a ^ r_prime
+        entry = table[x0 ^ a]
+        scratch[place] = entry ^ s1 ^ s2
+        log += [(8, a), (9, place), (11, x0 ^ a), (12, entry), (13, entry ^ s1), (14, entry ^ s1 ^ s2)]
+    answer = scratch[r3]
+    log += [(5, r3), (15, answer)]
+    return answer, scratch, log
+
+
+def run_method_3(case, table, scratch):
+    _, n, _, x0, r1, r2, s1, s2, r3, b = case
+    scratch = [1 - b] * 2**n + list(scratch[2**n :])
+    scratch[r3] = b
+    registers = [0, 0]
+    log = [(11, x0), (1, r1), (2, r2), (3, s1), (4, s2), (6, b), (5, r3), (18, 1 - b)]
+    for a in range(2**n):
+        place = r1 ^ a ^ r3 ^ r2
+        cmp = scratch[place]
+        entry = table[x0 ^ a]
+        registers[cmp] = entry ^ s1 ^ s2
+        log += [(7, a), (8, r1 ^ a), (9, r1 ^ a ^ r3), (17, place), (10, cmp)]
+        log += [(12, x0 ^ a), (13, entry), (14, entry ^ s1), (15, entry ^ s1 ^ s2)]
+    answer = registers[b]
+    log += [(6, b), (16, answer)]
+    return answer, scratch, log
+
+
+def run(case, table, scratch):
+    return {2: run_method_2, 3: run_method_3}[case.method](case, table, scratch)
+
+
+# The refusal, the answer share, the count of entries, and scratch and log as the call leaves them.
+def logged_call(case, table, scratch, log):
+    refusal = logged_refusal(case, table, scratch, log)
+    if refusal:
+        return refusal, 0, 0, list(scratch), list(log)
+    answer, scratch, pairs = run(case, table, scratch)
+    entries = [kind * 256 + value for kind, value in pairs]
+    return 0, answer, len(entries), scratch, entries + list(log[len(entries) :])
+
+
+# The refusal, the answer share, the count 0, and scratch as the call leaves it.
+def plain_call(case, table, scratch):
+    refusal = plain_refusal(case, table, scratch)
+    if refusal:
+        return refusal, 0, 0, list(scratch)
+    answer, scratch, _ = run(case, table, scratch)
+    return 0, answer, 0, scratch
+
+
+# The plain call as the C host gets it: the one 16-bit number, and scratch.
+def exported_call(case, table, scratch):
+    refusal, share, _, scratch = plain_call(case, table, scratch)
+    return refusal * 256 + share, scratch
+
+
+# Counting over the choices of masks.
+
+
+# Every choice of masks for an input, as the case that it makes.
+def choices(method, n, m, secret):
+    inputs, outputs = range(2**n), range(2**m)
+    bits = {2: [0], 3: [0, 1]}[method]
+    for r1, r2, r3, s1, s2, b in itertools.product(inputs, inputs, inputs, outputs, outputs, bits):
+        yield Case(method, n, m, secret ^ r1 ^ r2, r1, r2, s1, s2, r3, b)
+
+
+# How many choices leave each pair of values at positions i and j. The table need not be one that a call accepts.
+def pair_counts(table, method, n, m, secret, i, j):
+    counts = {}
+    for case in choices(method, n, m, secret):
+        _, _, log = run(case, table, [0] * 2**n)
+        pair = log[i][1], log[j][1]
+        counts[pair] = counts.get(pair, 0) + 1
+    return counts
+
+
+# The bench print.
+
+NUMBER = re.compile(rb" *(0|[1-9][0-9]*)")
+
+
+# The numbers that fill a line, each in 4 columns, or None where the line is of another form.
+def line_numbers(line, count):
+    if len(line) != 4 * count:
+        return None
+    fields = [NUMBER.fullmatch(line[at : at + 4]) for at in range(0, len(line), 4)]
+    if not all(fields):
+        return None
+    numbers = [int(field.group(1)) for field in fields]
+    return numbers if max(numbers) <= 255 else None
+
+
+# The case and the table that a program input holds, or None where it is of another form.
+def read_sheet(text):
+    first, *others = text.split(b"\n")
+    if not others or others.pop() != b"" or len(others) > 256:
+        return None
+    numbers = line_numbers(first, 10)
+    entries = [line_numbers(line, 1) for line in others]
+    if numbers is None or None in entries:
+        return None
+    return Case(*numbers), [entry for [entry] in entries]
+
+
+def print_line(*numbers):
+    return b"".join(b"%4d" % number for number in numbers) + b"\n"
+
+
+# What the program writes for an input.
+def bench(text):
+    sheet = read_sheet(text)
+    if sheet is None:
+        return print_line(1)
+    case, table = sheet
+    refusal, share, count, _, log = logged_call(case, table, [0] * 256, [0] * log_length(3, 8))
+    if refusal:
+        return print_line(refusal)
+    lines = [print_line(at, log[at] // 256, log[at] % 256) for at in range(count)]
+    return b"".join(lines) + print_line(0, share, count)
