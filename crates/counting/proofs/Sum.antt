@@ -1,9 +1,11 @@
 -- The laws of finite sums. Assumes nothing.
 use mathlib.Core.Path.{_≡_, refl, sym, ap₂, _∙_}
+use mathlib.Core.Bool.{cond}
 use Prim.Native.Nat.{ℕ, zero, suc, _+_, _*_, _<_}
-use native.Mathlib.Nat.{le-refl, add-assoc, mul-zero}
+use native.Mathlib.Nat.{le-refl, le-of-suc-le-suc, not-suc-le-zero, add-assoc, mul-zero, zero-mul, zero-add}
 use native.Mathlib.Numerals.{add-one}
 use native.Mathlib.Omega.{arith}
+use lib.Dec.{eqb, eqb·zero-suc, eqb·suc-zero, eqb·suc-suc}
 use Rattle.counting.specs.Sum.{sum}
 
 -- equal terms make equal sums
@@ -35,3 +37,15 @@ sum-pairs zero f = refl
 sum-pairs (suc k) f =
     let twice : suc k * 2 ≡ suc (suc (k * 2)) = omega arith in
     rw twice (rw (sum-pairs k f, add-one) (add-assoc _ _ _))
+
+-- the first term apart from the rest
+pub sum-first : (k : ℕ) (f : ℕ → ℕ) → sum (suc k) f ≡ f 0 + sum k (λ i. f (suc i))
+unfolding sum
+sum-first zero f = omega arith
+sum-first (suc k) f = rw (sum-first k f) (add-assoc _ _ _)
+
+-- only the term at x counts
+pub sum-one : (k x : ℕ) (f : ℕ → ℕ) → x < k → sum k (λ i. cond (eqb x i) 1 0 * f i) ≡ f x
+sum-one zero x f h = absurd (not-suc-le-zero h)
+sum-one (suc k) zero f h = sum-first k _ ∙ simp (eqb·zero-suc, zero-mul) (omega (arith, sum-const k 0))
+sum-one (suc k) (suc x) f h = sum-first k _ ∙ simp (eqb·suc-zero, eqb·suc-suc, zero-mul, zero-add) (sum-one k x (λ i. f (suc i)) (le-of-suc-le-suc h))

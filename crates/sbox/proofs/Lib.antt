@@ -1,4 +1,4 @@
--- The laws of the S-box, and the test over a range that they are computed by.
-pub mod Below
+-- The laws of the field's inverse and of the S-box.
+pub mod Tabulate
 pub mod Inverse
 pub mod Sbox

@@ -1,5 +1,4 @@
--- The field of FIPS 197, its S-box, and what it means that a table is balanced.
+-- The field of FIPS 197 and its S-box.
 pub mod Tabulate
 pub mod Field
 pub mod Sbox
-pub mod Balanced
