@@ -1,10 +1,10 @@
 -- Whether row and input have an odd number of ones in common is linear over ⊕. Assumes nothing.
 use mathlib.Core.Path.{_≡_, refl, sym, ap, ap₂, _∙_}
-use Prim.Native.Nat.{ℕ, zero, suc, _+_, _*_, _/_, _%_, _<_, min}
+use Prim.Native.Nat.{ℕ, _/_, _%_, _<_, min}
 use native.Mathlib.Nat.{mod-lt, zero-min}
 use native.Mathlib.Omega.{arith}
 use lib.Arith.{bin-ind}
-use lib.Bits.{bitAnd, and-step, and-zero-l}
+use lib.Bits.{bitAnd, and-step}
 use lib.Count.{ones, ones-step}
 use lib.Dec.{lit<}
 use Rattle.bits.specs.Xor.{_⊕_}

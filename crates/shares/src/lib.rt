@@ -1,6 +1,5 @@
 // Three shares of a secret: splitting, joining and adding a key share by share. Refused input gets its number and zeros.
 ghost use mathlib.Core.Path.{_≡_};
-ghost use Prim.Native.Nat.{_≤_};
 ghost use Rattle.shares.specs.Shares.{width-refusal, reply as Shares·reply, split as Shares·split, join as Shares·join, add-key};
 
 pub struct Shares {

@@ -1,0 +1,117 @@
+-- The leak test on a small system: pairs that pass, pairs that leak and do not pass, and what passing says for one table. Assumes nothing.
+use mathlib.Core.Path.{_≡_, refl, sym, ap, _∙_}
+use mathlib.Core.Bool.{false, cond}
+use mathlib.Core.List.{List, [], _∷_}
+use Prim.Native.Nat.{ℕ, zero, suc, _%_, _^_, _<_}
+use native.Mathlib.Nat.{mod-lt, mod-eq-of-lt, le-refl}
+use native.Mathlib.Omega.{arith}
+use lib.Dec.{T, eqb}
+use lib.Pow.{pow-pos}
+use Rattle.bits.specs.Xor.{_⊕_}
+use Rattle.bits.proofs.Xor.{below}
+use Rattle.counting.specs.Choice.{_▸_}
+use Rattle.counting.proofs.Sum.{sum-ext}
+use Rattle.counting.proofs.Shift.{shift}
+use Rattle.counting.proofs.Choice.{within-none, within-more}
+use Rattle.probing.specs.Expression.{Expression, secret, mask, number, _⊞_, lookup, differ, System, Setting}
+use Rattle.probing.specs.Alike.{Alike, Even, Known}
+use Rattle.probing.specs.Test.{fine, all-fine}
+use Rattle.probing.proofs.Sound.{alike}
+
+-- three masks for an input, two for an answer and one for a comparison; the input and its entry in the table, the answer, are secret
+abbrev system : (flag : ℕ) → System
+system flag =
+    record { masks = 0 ∷ 0 ∷ 0 ∷ 1 ∷ 1 ∷ 2 ∷ []; secrets = 0 ∷ 1 ∷ []; tables = record { from = 0; to = 1; entry = 1 } ∷ []; flag = flag }
+
+abbrev input : Expression
+input = secret 0 ⊞ mask 0 ⊞ mask 1
+
+abbrev refreshed : Expression
+refreshed = mask 0 ⊞ mask 2 ⊞ mask 1
+
+abbrev answer : Expression
+answer = secret 1 ⊞ mask 3 ⊞ mask 4
+
+-- the loop number a is public
+abbrev entry : (a : ℕ) → Expression
+entry a = lookup 0 (input ⊞ number 0 a) ⊞ mask 3 ⊞ mask 4
+
+-- whether a is what the input is masked by
+abbrev compared : (a : ℕ) → Expression
+compared a = differ (refreshed ⊞ number 0 a) (mask 2)
+
+-- the shift rule, the table rule, and the mask rule
+input-refreshed : T (fine (system 3) input refreshed)
+unfolding fine
+input-refreshed = tt
+
+entry-answer : (flag a : ℕ) → T (fine (system flag) (entry a) answer)
+unfolding fine
+entry-answer flag a = tt
+
+compared-input : (a : ℕ) → T (fine (system 2) (compared a ⊞ mask 5) input)
+unfolding fine
+compared-input a = tt
+
+abbrev steps : (a : ℕ) → List Expression
+steps a = input ∷ refreshed ∷ compared a ⊞ mask 5 ∷ entry a ∷ answer ∷ []
+
+all-pairs : (a a' : ℕ) → T (all-fine (system 2) (steps a) (steps a'))
+unfolding all-fine
+all-pairs a a' = tt
+
+-- each of these pairs leaks for some widths and tables: a secret beside its masks, or beside an entry at its mask; an entry beside its mask;
+-- a secret under a mask of another class, or added to an entry of a table that does not lead to it; a comparison under no mask, or under one
+-- of another class
+input-masks : fine (system 3) input (mask 0 ⊞ mask 1) ≡ false
+unfolding fine
+input-masks = refl
+
+answer-masks : fine (system 3) answer (mask 3 ⊞ mask 4) ≡ false
+unfolding fine
+answer-masks = refl
+
+entry-mask : (a : ℕ) → fine (system 3) (lookup 0 (secret 0 ⊞ number 0 a) ⊞ mask 3) (mask 3) ≡ false
+unfolding fine
+entry-mask a = refl
+
+secret-entry : fine (system 3) (secret 0 ⊞ mask 0) (lookup 0 (mask 0)) ≡ false
+unfolding fine
+secret-entry = refl
+
+narrow-mask : (a : ℕ) → fine (system 3) (secret 0 ⊞ mask 3) (number 0 a) ≡ false
+unfolding fine
+narrow-mask a = refl
+
+other-table : (a : ℕ) → fine (system 3) (lookup 0 (mask 0) ⊞ secret 0) (number 0 a) ≡ false
+unfolding fine
+other-table a = refl
+
+compared-bare : (a : ℕ) → fine (system 2) (compared a) input ≡ false
+unfolding fine
+compared-bare a = refl
+
+compared-other : (a : ℕ) → fine (system 3) (compared a ⊞ mask 5) input ≡ false
+unfolding fine
+compared-other a = refl
+
+-- the table of n bits in which each index is its own entry
+abbrev setting : (n : ℕ) → Setting
+setting n = record { width = λ class. cond (eqb class 2) 1 n; tables = λ t z. z % 2 ^ n }
+
+same-even : (n : ℕ) {d : ℕ} → d < 2 ^ n → Even (2 ^ n) (λ z. z % 2 ^ n) d
+same-even n {d} h g =
+    sum-ext (2 ^ n) (λ z l. ap (λ x. g (x ⊕ d)) (mod-eq-of-lt l)) ∙ shift n g h ∙ sym (sum-ext (2 ^ n) (λ z l. ap g (mod-eq-of-lt l)))
+
+known : (n x y : ℕ) → x < 2 ^ n → y < 2 ^ n → Known (system 2) (setting n) (x ▸ x ▸ (λ i. 0)) (y ▸ y ▸ (λ i. 0))
+known n x y h l =
+    record {
+      before = within-more h (within-more h within-none);
+      after = within-more l (within-more l within-none);
+      flag = le-refl 1;
+      entries = elim [ zero ↦ λ b z. mod-lt z (pow-pos n) | suc t ↦ λ b. absurd (omega arith) ];
+      even = elim [ zero ↦ λ b. same-even n (below n h l) | suc t ↦ λ b. absurd (omega arith) ];
+    }
+
+entry-tells-nothing : (n x y a : ℕ) → x < 2 ^ n → y < 2 ^ n → Alike (system 2) (setting n) (x ▸ x ▸ (λ i. 0)) (y ▸ y ▸ (λ i. 0)) (entry a) answer
+entry-tells-nothing n x y a h l = alike (system 2) (setting n) (known n x y h l) (entry a) answer (entry-answer 2 a)

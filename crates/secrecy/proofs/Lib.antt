@@ -1,0 +1,6 @@
+-- What proves that two entries tell nothing, and the bench sheet.
+pub mod Sheet
+pub mod Fine
+pub mod Shown
+pub mod Observed
+pub mod Promises

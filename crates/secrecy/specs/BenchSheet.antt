@@ -1,0 +1,82 @@
+-- Document 01's bench sheet, P1 to P12: on each line what the definitions come to, and what the paper says. Assumes nothing: these are definitions.
+use mathlib.Core.Path.{_≡_}
+use mathlib.Core.List.{List, [], _∷_, _++_, map}
+use Prim.Native.Nat.{ℕ}
+use lib.ListN.{replicate}
+use Rattle.counting.specs.Choice.{over}
+use Rattle.shares.specs.Shares.{join}
+use Rattle.linear.specs.Layer.{layer}
+use Rattle.lookup.specs.declared.Case.{Case}
+use Rattle.lookup.specs.Call.{answer, scratch-after}
+use Rattle.lookup.specs.Refusals.{case-refusal, logged-refusal}
+use Rattle.secrecy.specs.Count.{mask-widths, count}
+
+pub record Line : Type 0 where
+  pub comes-to : List ℕ
+  pub paper : List ℕ
+
+infix 68 _says_
+abbrev pub _says_ : (comes-to paper : List ℕ) → Line
+found says paper = record { comes-to = found; paper = paper }
+
+abbrev case : (method n m x0 r1 r2 s1 s2 r3 b : ℕ) → Case
+case method n m x0 r1 r2 s1 s2 r3 b =
+    record { method = method; n = n; m = m; x0 = x0; r1 = r1; r2 = r2; s1 = s1; s2 = s2; r3 = r3; b = b }
+
+-- table A, and the call of P2
+abbrev A : List ℕ
+A = 2 ∷ 0 ∷ 3 ∷ 1 ∷ []
+
+abbrev P2 : Case
+P2 = case 2 2 2 0 1 2 3 0 2 0
+
+-- the logged call's number, by the lengths of the lent scratch and log
+abbrev refused : Case → (table : List ℕ) → (scratch log : ℕ) → ℕ
+refused c table scratch log = logged-refusal c table (replicate scratch 0) (replicate log 0)
+
+-- every case of these widths, shares and masks in their widths, b = 0: the numbers handed back, added up
+abbrev all-masks : (method n m : ℕ) → (table : List ℕ) → ℕ
+all-masks method n m table =
+    over (n ∷ n ∷ n ∷ n ∷ m ∷ m ∷ []) (λ c. case-refusal (case method n m (c 0) (c 1) (c 2) (c 4) (c 5) (c 3) 0) table)
+
+-- the counts of the four pairs of bits
+abbrev pairs : (table : List ℕ) → (method n m x i j : ℕ) → List ℕ
+pairs table method n m x i j =
+    map (λ v. count table method n m x i j 0 v) (0 ∷ 1 ∷ []) ++ map (λ v. count table method n m x i j 1 v) (0 ∷ 1 ∷ [])
+
+unfoldable pub sheet : List Line
+sheet =
+    -- P1: the call above answers 1
+    (refused (case 2 1 1 0 1 0 0 1 1 0) (1 ∷ 0 ∷ []) 2 22 ∷ answer (case 2 1 1 0 1 0 0 1 1 0) (1 ∷ 0 ∷ []) ∷ []) says (0 ∷ 1 ∷ [])
+    -- P2: scratch 3, 1, 2, 0, answer 2
+    ∷ scratch-after P2 A (replicate 4 0) says (3 ∷ 1 ∷ 2 ∷ 0 ∷ [])
+    ∷ (refused P2 A 4 34 ∷ answer P2 A ∷ []) says (0 ∷ 2 ∷ [])
+    -- P3: the same under method 3 with b = 1: scratch 0, 0, 1, 0, answer 2
+    ∷ scratch-after (case 3 2 2 0 1 2 3 0 2 1) A (replicate 4 0) says (0 ∷ 0 ∷ 1 ∷ 0 ∷ [])
+    ∷ (refused (case 3 2 2 0 1 2 3 0 2 1) A 4 46 ∷ answer (case 3 2 2 0 1 2 3 0 2 1) A ∷ []) says (0 ∷ 2 ∷ [])
+    -- P4: x0 = 4: 10; x0 = 3 is accepted
+    ∷ (refused (case 2 2 2 4 1 2 3 0 2 0) A 4 34 ∷ refused (case 2 2 2 3 1 2 3 0 2 0) A 4 34 ∷ []) says (10 ∷ 0 ∷ [])
+    -- P5: n = 2, m = 3: 4
+    ∷ (refused (case 2 2 3 0 1 2 3 0 2 0) A 4 34 ∷ []) says (4 ∷ [])
+    -- P6: n = 2, m = 1, table 0, 0, 0, 1: 7; table 0, 1, 1, 0, with every mask in its width, is accepted
+    ∷ (refused (case 2 2 1 0 1 2 1 0 2 0) (0 ∷ 0 ∷ 0 ∷ 1 ∷ []) 4 34 ∷ all-masks 2 2 1 (0 ∷ 1 ∷ 1 ∷ 0 ∷ []) ∷ []) says (7 ∷ 0 ∷ [])
+    -- P7: scratch of 3 bytes: 13; with 4 accepted
+    ∷ (refused P2 A 3 34 ∷ refused P2 A 4 34 ∷ []) says (13 ∷ 0 ∷ [])
+    -- P8: a log of 33: 14; with 34 accepted
+    ∷ (refused P2 A 4 33 ∷ refused P2 A 4 34 ∷ []) says (14 ∷ 0 ∷ [])
+    -- P9: method 2 with b = 1: 12; method 3 with b = 2: 12
+    ∷ (refused (case 2 2 2 0 1 2 3 0 2 1) A 4 34 ∷ refused (case 3 2 2 0 1 2 3 0 2 2) A 4 46 ∷ []) says (12 ∷ 12 ∷ [])
+    -- P10: method 4 and n = 9 together: 2
+    ∷ (refused (case 4 9 2 0 1 2 3 0 2 0) A 4 34 ∷ []) says (2 ∷ [])
+    -- P11: n = m = 3, rows 3, 6, 5, constant 1, shares 7, 1, 3: result 1, 5, 6, which join to 2
+    ∷ (layer 3 3 (3 ∷ 6 ∷ 5 ∷ []) 1 7 1 3 .refusal ∷ layer 3 3 (3 ∷ 6 ∷ 5 ∷ []) 1 7 1 3 .first ∷ layer 3 3 (3 ∷ 6 ∷ 5 ∷ []) 1 7 1 3 .second
+    ∷ layer 3 3 (3 ∷ 6 ∷ 5 ∷ []) 1 7 1 3 .third ∷ join 3 1 5 6 .secret ∷ []) says (0 ∷ 1 ∷ 5 ∷ 6 ∷ 2 ∷ [])
+    -- P12: table 1, 0, method 2, positions 0 and 21: each of the four pairs has 8 of 32 choices, for both inputs
+    ∷ pairs (1 ∷ 0 ∷ []) 2 1 1 0 0 21 says (8 ∷ 8 ∷ 8 ∷ 8 ∷ [])
+    ∷ pairs (1 ∷ 0 ∷ []) 2 1 1 1 0 21 says (8 ∷ 8 ∷ 8 ∷ 8 ∷ [])
+    ∷ (over (mask-widths 2 1 1) (λ c. 1) ∷ []) says (32 ∷ [])
+    ∷ []
+
+-- the definitions come to what the paper says
+unfoldable pub Sheet-right : Type 0
+Sheet-right = map (λ l. l .comes-to) sheet ≡ map (λ l. l .paper) sheet
