@@ -1,8 +1,12 @@
-# `make` proves and builds what a user runs; `make test` is the gate.
-.PHONY: all sbox test
+# `make` proves and builds what a user runs; `make lib` builds what C links; `make test` is the gate.
+.PHONY: all lib sbox test
 
 all:
 	rt check
+
+# target/staticlib/libcippazhey.a, whose header is include/cippazhey.h
+lib:
+	rt staticlib cippazhey
 
 # the S-box of FIPS 197, printed by the proved program
 sbox:

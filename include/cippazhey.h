@@ -1,0 +1,77 @@
+// Cippazhey for C and C++: the masked table lookup on three shares, the numbers of its refusals, and what its caller owes.
+// Link libcippazhey.a, which `make lib` writes to target/staticlib/. It needs memset and memcpy, and nothing else.
+#ifndef CIPPAZHEY_H
+#define CIPPAZHEY_H
+
+#include <stddef.h>
+#include <stdint.h>
+
+#ifdef __cplusplus
+extern "C" {
+#endif
+
+// Why a call is refused. The first that applies, in this order, is returned.
+enum cippazhey_refusal {
+    CIPPAZHEY_ACCEPTED = 0,
+    CIPPAZHEY_REFUSED_METHOD = 2,           // the method is neither 2 nor 3
+    CIPPAZHEY_REFUSED_INPUT_WIDTH = 3,      // n is below 1 or above 8
+    CIPPAZHEY_REFUSED_OUTPUT_WIDTH = 4,     // m is below 1 or above n
+    CIPPAZHEY_REFUSED_TABLE_LENGTH = 5,     // the table does not have exactly 2^n entries
+    CIPPAZHEY_REFUSED_TABLE_ENTRY = 6,      // a table entry is 2^m or more
+    CIPPAZHEY_REFUSED_UNBALANCED_TABLE = 7, // a value below 2^m does not stand in exactly 2^(n-m) entries
+    CIPPAZHEY_REFUSED_INPUT_SHARE = 10,     // x0, r1, r2 or r3 is 2^n or more
+    CIPPAZHEY_REFUSED_OUTPUT_MASK = 11,     // s1 or s2 is 2^m or more
+    CIPPAZHEY_REFUSED_BIT = 12,             // b is above 0 under method 2, or above 1 under method 3
+    CIPPAZHEY_REFUSED_SCRATCH_LENGTH = 13   // scratch has fewer than 2^n bytes
+};
+
+// A call needs 2^n bytes of scratch. This many suffice for every width.
+#define CIPPAZHEY_SCRATCH_LENGTH 256
+
+// Looks up the secret x = x0 ^ r1 ^ r2 in a table of 2^n entries of m bits, without ever forming x.
+// Accepted, it returns the share table[x] ^ s1 ^ s2; s1 and s2 are the other two shares of table[x].
+//
+//   method       2 looks up in a masked copy of the table, 3 compares; both return the same share
+//   n, m         the table's input and output widths in bits
+//   x0, r1, r2   the three shares of the secret: x ^ r1 ^ r2 and the two masks
+//   s1, s2       the masks of the output
+//   r3           a mask of width n that the lookup itself uses
+//   b            under method 3 a random bit, under method 2 always 0
+//   table        one byte an entry; only read
+//   scratch      written; what it holds before does not matter. Accepted, its first 2^n bytes are method 2's masked
+//                table or method 3's comparison bytes, and the rest stays. Refused, all of it stays.
+//
+// What the caller owes:
+//   - table and scratch point to as many bytes as their lengths say. NULL is allowed only with length 0.
+//   - table and scratch do not overlap, and nothing else touches them while the call runs.
+//   - r1, r2, r3, s1, s2, and b under method 3 are uniform, independent, and new for each call. No call can check that.
+//
+// What is proved of the source:
+//   - Every call returns, and reads and writes only the bytes it is lent.
+//   - The result and every byte of scratch are as the scope document lays them out. A refused call writes nothing.
+//   - Any two of the values that the method's log lists tell nothing of the secret, for every balanced table and all widths.
+// What is not:
+//   - How long a call takes.
+//   - What the compiled code holds in registers and memory besides those values.
+//   - Three values taken together, and masks that are not uniform or are used twice.
+//
+// Returned is refusal * 256 + share, the share 0 on refusal.
+uint16_t cippazhey_plain_call(uint32_t method, uint32_t n, uint32_t m, uint32_t x0, uint32_t r1, uint32_t r2, uint32_t s1,
+                              uint32_t s2, uint32_t r3, uint32_t b, const uint8_t *table, size_t table_length,
+                              uint8_t *scratch, size_t scratch_length);
+
+// The refusal in a result: one of the numbers above, CIPPAZHEY_ACCEPTED where there is none.
+static inline unsigned cippazhey_refusal_of(uint16_t result) {
+    return result / 256u;
+}
+
+// The share in a result.
+static inline uint8_t cippazhey_share_of(uint16_t result) {
+    return (uint8_t)(result % 256u);
+}
+
+#ifdef __cplusplus
+}
+#endif
+
+#endif

@@ -1,0 +1,286 @@
+// Compares the exported plain call with the reference, and with the scope document's own figures.
+// Prints a line of counts for each group of calls and the first calls that differ; exits with 1 if any differs.
+#include "cippazhey.h"
+#include "trial.h"
+
+#include <stdio.h>
+#include <string.h>
+
+enum { RANDOM_CALLS = 100000 };
+
+static struct trial with(const struct trial *trial, int place, uint32_t number) {
+    struct trial changed = *trial;
+    changed.number[place] = number;
+    return changed;
+}
+
+static void expect_with(const struct trial *trial, int place, uint32_t number, unsigned refusal, const char *what) {
+    struct trial changed = with(trial, place, number);
+    expect(&changed, refusal, what);
+}
+
+static void expect_lengths(struct trial trial, size_t table_length, size_t scratch_length, unsigned refusal, const char *what) {
+    trial.table_length = table_length;
+    trial.scratch_length = scratch_length;
+    expect(&trial, refusal, what);
+}
+
+// The bench sheet, as far as it speaks of the plain call.
+
+static void bench_sheet(void) {
+    const struct trial p1 = {{2, 1, 1, 0, 1, 0, 0, 1, 1, 0}, {1, 0}, 2, 2};
+    const struct trial p2 = {{2, 2, 2, 0, 1, 2, 3, 0, 2, 0}, {2, 0, 3, 1}, 4, 4};
+    const struct trial p3 = {{3, 2, 2, 0, 1, 2, 3, 0, 2, 1}, {2, 0, 3, 1}, 4, 4};
+    const struct trial p5 = {{2, 2, 3, 0, 1, 2, 3, 0, 2, 0}, {2, 0, 3, 1}, 4, 4};
+    const struct trial p6 = {{2, 2, 1, 0, 1, 2, 1, 0, 2, 0}, {0, 0, 0, 1}, 4, 4};
+    const struct trial p6_accepted = {{2, 2, 1, 0, 1, 2, 1, 0, 2, 0}, {0, 1, 1, 0}, 4, 4};
+    const struct trial p10 = {{4, 9, 2, 0, 1, 2, 3, 0, 2, 0}, {2, 0, 3, 1}, 4, 4};
+    expect_whole(&p1, 1, (const uint8_t[]){0, 1}, "P1");
+    expect_whole(&p2, 2, (const uint8_t[]){3, 1, 2, 0}, "P2");
+    expect_whole(&p3, 2, (const uint8_t[]){0, 0, 1, 0}, "P3");
+    expect_with(&p2, X0, 4, 10, "P4");
+    expect_with(&p2, X0, 3, 0, "P4, accepted");
+    expect(&p5, 4, "P5");
+    expect(&p6, 7, "P6");
+    expect(&p6_accepted, 0, "P6, accepted");
+    expect_lengths(p2, 4, 3, 13, "P7");
+    expect_lengths(p2, 4, 4, 0, "P7, accepted");
+    expect_with(&p2, B, 1, 12, "P9, method 2");
+    expect_with(&p3, B, 2, 12, "P9, method 3");
+    expect(&p10, 2, "P10");
+}
+
+// Each refusal, with what is just inside and just outside, and numbers that come into range when they are cut to 8 or 16 bits.
+
+static void number_bounds(const struct trial *fine, int place, uint32_t limit, unsigned refusal, const char *what) {
+    const uint32_t outside[] = {limit, limit + 1, 256, 258, 65536, 65536 + limit, UINT32_MAX};
+    expect_with(fine, place, limit - 1, 0, what);
+    expect_with(fine, place, 0, 0, what);
+    for (size_t each = 0; each < sizeof outside / sizeof *outside; each++) {
+        expect_with(fine, place, outside[each], refusal, what);
+    }
+}
+
+static void entry_bounds(const struct trial *fine, uint32_t values) {
+    for (size_t place = 0; place < fine->table_length; place++) {
+        struct trial changed = *fine;
+        changed.table[place] = (uint8_t)(values - 1);
+        expect(&changed, fine->table[place] == values - 1 ? 0 : 7, "largest entry");
+        if (values < 256) {
+            changed.table[place] = (uint8_t)values;
+            expect(&changed, 6, "entry too large");
+        }
+    }
+}
+
+static void widths_and_methods(const struct trial *fine, uint32_t n) {
+    const uint32_t no_methods[] = {0, 1, 4, 5, 256, 258, 259, 65538, 65539, UINT32_MAX};
+    const uint32_t no_widths[] = {0, 9, 16, 31, 32, 32 + n, 64 + n, 255, 256, 256 + n, 65536 + n, UINT32_MAX};
+    for (size_t each = 0; each < sizeof no_methods / sizeof *no_methods; each++) {
+        expect_with(fine, METHOD, no_methods[each], 2, "method");
+    }
+    for (size_t each = 0; each < sizeof no_widths / sizeof *no_widths; each++) {
+        expect_with(fine, N, no_widths[each], 3, "input width");
+        expect_with(fine, M, no_widths[each], 4, "output width");
+    }
+    expect_with(fine, M, n + 1, 4, "output width above the input width");
+}
+
+static void neighbours_at(uint32_t method, uint32_t n, uint32_t m) {
+    struct trial fine = accepted(method, n, m);
+    uint32_t entries = power(n), values = power(m);
+    expect(&fine, 0, "accepted");
+    widths_and_methods(&fine, n);
+    expect_lengths(fine, entries - 1, entries, 5, "table too short");
+    expect_lengths(fine, entries + 1, entries, 5, "table too long");
+    expect_lengths(fine, 2 * entries, entries, 5, "table twice as long");
+    expect_lengths(fine, 0, entries, 5, "empty table");
+    entry_bounds(&fine, values);
+    number_bounds(&fine, X0, entries, 10, "x0");
+    number_bounds(&fine, R1, entries, 10, "r1");
+    number_bounds(&fine, R2, entries, 10, "r2");
+    number_bounds(&fine, R3, entries, 10, "r3");
+    number_bounds(&fine, S1, values, 11, "s1");
+    number_bounds(&fine, S2, values, 11, "s2");
+    number_bounds(&fine, B, method == 3 ? 2 : 1, 12, "b");
+    expect_lengths(fine, entries, entries - 1, 13, "scratch too short");
+    expect_lengths(fine, entries, 0, 13, "empty scratch");
+    expect_lengths(fine, entries, entries + 1, 0, "scratch longer by one");
+    expect_lengths(fine, entries, LONGEST, 0, "scratch much longer");
+}
+
+static void neighbours(void) {
+    for (uint32_t n = 1; n <= 8; n++) {
+        for (uint32_t m = 1; m <= n; m++) {
+            neighbours_at(2, n, m);
+            neighbours_at(3, n, m);
+        }
+    }
+}
+
+// Every set of refusals at once: the first in the order of checking is returned.
+
+static const unsigned refusals[] = {2, 3, 4, 5, 6, 7, 10, 11, 12, 13};
+enum { REFUSALS = sizeof refusals / sizeof *refusals };
+
+// Gives an accepted call one fault that does not take away another's. The table's two are applied with 7 before 6.
+static void add_fault(struct trial *trial, unsigned refusal, uint32_t n, uint32_t m) {
+    switch (refusal) {
+    case 2: trial->number[METHOD] = below(2) ? 4 : 258; break;
+    case 3: trial->number[N] = below(2) ? 9 : 0; break;
+    case 4: trial->number[M] = below(2) ? n + 1 : 0; break;
+    case 5: trial->table_length = below(2) ? power(n) + 1 : power(n) - 1; break;
+    case 6: trial->table[below(power(n) - 1)] = (uint8_t)power(m); break;
+    case 7: memset(trial->table, 0, power(n)); break;
+    case 10: trial->number[(const int[]){X0, R1, R2, R3}[below(4)]] = below(2) ? power(n) : UINT32_MAX; break;
+    case 11: trial->number[below(2) ? S1 : S2] = below(2) ? power(m) : 256; break;
+    case 12: trial->number[B] = below(2) ? 2 : 256; break;
+    default: trial->scratch_length = below(2) ? power(n) - 1 : 0; break;
+    }
+}
+
+static void several_faults_at(uint32_t method, uint32_t n, uint32_t m) {
+    for (uint32_t chosen = 1; chosen < power(REFUSALS); chosen++) {
+        struct trial trial = accepted(method, n, m);
+        unsigned first = 0;
+        for (int each = REFUSALS - 1; each >= 0; each--) {
+            if (chosen >> each & 1) {
+                first = refusals[each];
+                add_fault(&trial, first, n, m);
+            }
+        }
+        expect(&trial, first, "several faults");
+    }
+}
+
+static void several_faults(void) {
+    for (uint32_t method = 2; method <= 3; method++) {
+        several_faults_at(method, 1, 1);
+        several_faults_at(method, 3, 2);
+        several_faults_at(method, 8, 7);
+    }
+}
+
+// Lengths that come into range when they are cut to 8 or 16 bits: such a table is refused, such scratch suffices.
+
+static void long_buffers_at(uint32_t n, size_t length) {
+    static uint8_t table[65536 + 256], scratch[65536], wanted[65536];
+    struct trial trial = accepted(2 + below(2), n, 1 + below(n));
+    memcpy(table, trial.table, power(n));
+    memset(scratch, 170, sizeof scratch);
+    memset(wanted, 170, sizeof wanted);
+    trial.scratch_length = length;
+    record(make_call(&trial, table, scratch) == make_reference_call(&trial, table, wanted), "result with long scratch");
+    trial.table_length += length;
+    record(make_call(&trial, table, scratch) == 256 * CIPPAZHEY_REFUSED_TABLE_LENGTH, "long table");
+    record(memcmp(scratch, wanted, sizeof scratch) == 0, "long scratch");
+}
+
+static void long_buffers(void) {
+    for (uint32_t n = 1; n <= 8; n++) {
+        long_buffers_at(n, 256);
+        long_buffers_at(n, 512);
+        long_buffers_at(n, 65536);
+    }
+}
+
+// Small widths whole: every table, every mask.
+
+static void every_mask(struct trial trial, uint32_t n, uint32_t m) {
+    uint32_t entries = power(n), values = power(m);
+    uint32_t choices = entries * entries * entries * entries * values * values * 3;
+    for (uint32_t choice = 0; choice < choices; choice++) {
+        uint32_t rest = choice / 3;
+        trial.number[METHOD] = choice % 3 == 0 ? 2 : 3;
+        trial.number[B] = choice % 3 == 2 ? 1 : 0;
+        for (int place = X0; place <= R3; place++) {
+            uint32_t limit = place == S1 || place == S2 ? values : entries;
+            trial.number[place] = rest % limit;
+            rest /= limit;
+        }
+        compare(&trial, "small width");
+    }
+}
+
+// Every table of entries from 0 to 2^m; those that hold 2^m meet 6, those that are not balanced 7, and the others take every mask.
+static void every_table(uint32_t n, uint32_t m, uint32_t balanced_tables) {
+    uint32_t tables = 1, accepted_tables = 0;
+    for (uint32_t place = 0; place < power(n); place++) {
+        tables *= power(m) + 1;
+    }
+    for (uint32_t code = 0; code < tables; code++) {
+        struct trial trial = {{2, n, m, 0, 0, 0, 0, 0, 0, 0}, {0}, power(n), power(n) + code % 3};
+        uint32_t rest = code;
+        for (uint32_t place = 0; place < power(n); place++) {
+            trial.table[place] = (uint8_t)(rest % (power(m) + 1));
+            rest /= power(m) + 1;
+        }
+        if (cippazhey_refusal_of(compare(&trial, "small table")) == CIPPAZHEY_ACCEPTED) {
+            accepted_tables++;
+            every_mask(trial, n, m);
+        }
+    }
+    record(accepted_tables == balanced_tables, "number of balanced tables");
+}
+
+static void small_widths(void) {
+    every_table(1, 1, 2);
+    every_table(2, 1, 6);
+    every_table(2, 2, 24);
+}
+
+// Random calls, some of them damaged.
+
+static uint32_t boundary(void) {
+    const uint32_t others[] = {255, 256, 258, 65536, UINT32_MAX};
+    uint32_t kind = below(8);
+    return kind < 3 ? power(below(10)) + kind - 1 : others[kind - 3];
+}
+
+static void damage(struct trial *trial, uint32_t n) {
+    switch (below(8)) {
+    case 0: trial->table_length = (const size_t[]){0, power(n) - 1, power(n) + 1}[below(3)]; break;
+    case 1: trial->table[below(power(n))] = (uint8_t)below(256); break;
+    case 2: trial->table[below(power(n))] = trial->table[below(power(n))]; break;
+    case 3: trial->scratch_length = below(4) == 0 ? 0 : power(n) - 1; break;
+    default: trial->number[below(NUMBERS)] = boundary(); break;
+    }
+}
+
+static void random_calls(void) {
+    memset(met, 0, sizeof met);
+    for (int turn = 0; turn < RANDOM_CALLS; turn++) {
+        uint32_t n = 1 + below(8);
+        struct trial trial = accepted(2 + below(2), n, 1 + below(n));
+        if (below(2) == 0) {
+            trial.scratch_length += below(LONGEST - 256);
+        }
+        for (uint32_t times = below(3); times > 0; times--) {
+            damage(&trial, n);
+        }
+        compare(&trial, "random call");
+    }
+    record(met[0] > 0, "random calls accepted");
+    for (int each = 0; each < REFUSALS; each++) {
+        record(met[refusals[each]] > 0, "random calls refused by each number");
+    }
+}
+
+static void run_group(const char *name, void (*group)(void)) {
+    unsigned long passed_before = passed, failed_before = failed;
+    group();
+    printf("%s: %lu passed, %lu failed\n", name, passed - passed_before, failed - failed_before);
+}
+
+int main(void) {
+    // a call that ends the program still leaves the lines before it
+    setvbuf(stdout, NULL, _IOLBF, BUFSIZ);
+    run_group("bench sheet", bench_sheet);
+    run_group("neighbours of refusals", neighbours);
+    run_group("several faults at once", several_faults);
+    run_group("long buffers", long_buffers);
+    run_group("small widths whole", small_widths);
+    run_group("random calls", random_calls);
+    printf("%lu passed, %lu failed\n", passed, failed);
+    return failed == 0 ? 0 : 1;
+}

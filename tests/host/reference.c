@@ -1,0 +1,115 @@
+// The plain call in plain C, written from the scope document alone. It is made to be read, not to be fast or to hide anything.
+#include "reference.h"
+
+#include <stdbool.h>
+
+// Whether each value below `values` stands in the table equally often.
+static bool balanced(const uint8_t *table, size_t entries, size_t values) {
+    for (size_t value = 0; value < values; value++) {
+        size_t times = 0;
+        for (size_t place = 0; place < entries; place++) {
+            if (table[place] == value) {
+                times++;
+            }
+        }
+        if (times * values != entries) {
+            return false;
+        }
+    }
+    return true;
+}
+
+static unsigned table_refusal(struct lookup call) {
+    if (call.method != 2 && call.method != 3) {
+        return 2;
+    }
+    if (call.n < 1 || call.n > 8) {
+        return 3;
+    }
+    if (call.m < 1 || call.m > call.n) {
+        return 4;
+    }
+    size_t entries = (size_t)1 << call.n;
+    size_t values = (size_t)1 << call.m;
+    if (call.table_length != entries) {
+        return 5;
+    }
+    for (size_t place = 0; place < entries; place++) {
+        if (call.table[place] >= values) {
+            return 6;
+        }
+    }
+    if (!balanced(call.table, entries, values)) {
+        return 7;
+    }
+    return 0;
+}
+
+// Asked only once the widths are known to be from 1 to 8.
+static unsigned mask_refusal(struct lookup call) {
+    uint32_t entries = (uint32_t)1 << call.n;
+    uint32_t values = (uint32_t)1 << call.m;
+    if (call.x0 >= entries || call.r1 >= entries || call.r2 >= entries || call.r3 >= entries) {
+        return 10;
+    }
+    if (call.s1 >= values || call.s2 >= values) {
+        return 11;
+    }
+    if (call.method == 2 && call.b > 0) {
+        return 12;
+    }
+    if (call.method == 3 && call.b > 1) {
+        return 12;
+    }
+    return 0;
+}
+
+static unsigned refusal(struct lookup call, size_t scratch_length) {
+    unsigned number = table_refusal(call);
+    if (number != 0) {
+        return number;
+    }
+    number = mask_refusal(call);
+    if (number != 0) {
+        return number;
+    }
+    if (scratch_length < (size_t)1 << call.n) {
+        return 13;
+    }
+    return 0;
+}
+
+static uint8_t masked_entry(struct lookup call, uint32_t place) {
+    return (uint8_t)((call.table[place] ^ call.s1) ^ call.s2);
+}
+
+static uint8_t method_2(struct lookup call, uint8_t *scratch) {
+    uint32_t r_prime = (call.r1 ^ call.r3) ^ call.r2;
+    for (uint32_t a = 0; a < (uint32_t)1 << call.n; a++) {
+        scratch[a ^ r_prime] = masked_entry(call, call.x0 ^ a);
+    }
+    return scratch[call.r3];
+}
+
+static uint8_t method_3(struct lookup call, uint8_t *scratch) {
+    uint32_t entries = (uint32_t)1 << call.n;
+    uint8_t registers[2] = {0, 0};
+    for (uint32_t place = 0; place < entries; place++) {
+        scratch[place] = (uint8_t)(1 - call.b);
+    }
+    scratch[call.r3] = (uint8_t)call.b;
+    for (uint32_t a = 0; a < entries; a++) {
+        uint8_t compared = scratch[((call.r1 ^ a) ^ call.r3) ^ call.r2];
+        registers[compared] = masked_entry(call, call.x0 ^ a);
+    }
+    return registers[call.b];
+}
+
+uint16_t reference_plain_call(struct lookup call, uint8_t *scratch, size_t scratch_length) {
+    unsigned number = refusal(call, scratch_length);
+    if (number != 0) {
+        return (uint16_t)(number * 256);
+    }
+    uint8_t share = call.method == 2 ? method_2(call, scratch) : method_3(call, scratch);
+    return share;
+}

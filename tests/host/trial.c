@@ -1,0 +1,146 @@
+// Calls to try, and one comparison of the exported plain call with the reference.
+#include "trial.h"
+
+#include "cippazhey.h"
+#include "reference.h"
+
+#include <stdio.h>
+#include <string.h>
+
+enum { GUARD = 64, ROOM = GUARD + LONGEST + GUARD, SHOWN = 20 };
+
+unsigned long passed, failed, met[256];
+
+void record(bool good, const char *what) {
+    if (good) {
+        passed++;
+        return;
+    }
+    failed++;
+    if (failed <= SHOWN) {
+        printf("DIFFERS: %s\n", what);
+    }
+}
+
+// xorshift
+uint32_t below(uint32_t limit) {
+    static uint32_t state = 2463534242u;
+    state ^= state << 13;
+    state ^= state >> 17;
+    state ^= state << 5;
+    return state % limit;
+}
+
+uint32_t power(uint32_t exponent) {
+    return (uint32_t)1 << exponent;
+}
+
+// A table with each value equally often, in random order.
+static void fill_balanced(uint8_t *table, size_t entries, size_t values) {
+    for (size_t place = 0; place < entries; place++) {
+        size_t other = below((uint32_t)place + 1);
+        table[place] = table[other];
+        table[other] = (uint8_t)(place % values);
+    }
+}
+
+struct trial accepted(uint32_t method, uint32_t n, uint32_t m) {
+    uint32_t entries = power(n), values = power(m);
+    struct trial trial = {{method, n, m, 0, 0, 0, 0, 0, 0, method == 3 ? below(2) : 0}, {0}, entries, entries};
+    trial.number[X0] = below(entries);
+    trial.number[R1] = below(entries);
+    trial.number[R2] = below(entries);
+    trial.number[R3] = below(entries);
+    trial.number[S1] = below(values);
+    trial.number[S2] = below(values);
+    fill_balanced(trial.table, entries, values);
+    return trial;
+}
+
+// An empty buffer is lent as NULL half of the time.
+static bool as_null(size_t length) {
+    return length == 0 && below(2) == 0;
+}
+
+uint16_t make_call(const struct trial *trial, const uint8_t *table, uint8_t *scratch) {
+    const uint32_t *number = trial->number;
+    return cippazhey_plain_call(number[METHOD], number[N], number[M], number[X0], number[R1], number[R2], number[S1], number[S2],
+                                number[R3], number[B], as_null(trial->table_length) ? NULL : table, trial->table_length,
+                                as_null(trial->scratch_length) ? NULL : scratch, trial->scratch_length);
+}
+
+uint16_t make_reference_call(const struct trial *trial, const uint8_t *table, uint8_t *scratch) {
+    const uint32_t *number = trial->number;
+    struct lookup call = {number[METHOD], number[N],  number[M],  number[X0], number[R1], number[R2],
+                          number[S1],     number[S2], number[R3], number[B],  table,      trial->table_length};
+    return reference_plain_call(call, scratch, trial->scratch_length);
+}
+
+// Whether an accepted call's share joins with s1 and s2 to the secret's entry.
+static bool joins(const struct trial *trial, unsigned share) {
+    const uint32_t *number = trial->number;
+    uint32_t secret = number[X0] ^ number[R1] ^ number[R2];
+    return (share ^ number[S1] ^ number[S2]) == trial->table[secret];
+}
+
+static void show(const struct trial *trial, unsigned got, unsigned wanted) {
+    if (failed >= SHOWN) {
+        return;
+    }
+    printf("got %u, %u and not %u, %u from", got / 256, got % 256, wanted / 256, wanted % 256);
+    for (int place = 0; place < NUMBERS; place++) {
+        printf(" %lu", (unsigned long)trial->number[place]);
+    }
+    printf(", table of %lu, scratch of %lu\n", (unsigned long)trial->table_length, (unsigned long)trial->scratch_length);
+}
+
+// Makes the call both ways; `scratch` receives what the exported call leaves. Whether all is the same, and the result.
+static bool agrees(const struct trial *trial, uint8_t scratch[LONGEST], uint16_t *result) {
+    uint8_t before[ROOM], after[ROOM], wanted[LONGEST], table[ROOM], lent_table[ROOM];
+    uint8_t first = (uint8_t)below(256), table_first = (uint8_t)below(256);
+    for (size_t place = 0; place < ROOM; place++) {
+        before[place] = (uint8_t)(first + place * 7);
+        table[place] = (uint8_t)(table_first + place * 5);
+    }
+    memcpy(table + GUARD, trial->table, trial->table_length);
+    memcpy(lent_table, table, ROOM);
+    memcpy(after, before, ROOM);
+    memcpy(wanted, before + GUARD, LONGEST);
+
+    uint16_t got = make_call(trial, lent_table + GUARD, after + GUARD);
+    uint16_t expected = make_reference_call(trial, trial->table, wanted);
+    size_t end = GUARD + trial->scratch_length;
+    bool same = got == expected && memcmp(after + GUARD, wanted, trial->scratch_length) == 0;
+    bool kept = memcmp(after, before, GUARD) == 0 && memcmp(after + end, before + end, ROOM - end) == 0;
+    bool refused = cippazhey_refusal_of(got) != CIPPAZHEY_ACCEPTED;
+    bool right = same && (refused ? memcmp(after, before, ROOM) == 0 : joins(trial, cippazhey_share_of(got)));
+    memcpy(scratch, after + GUARD, LONGEST);
+    *result = got;
+    met[got / 256]++;
+    bool good = right && kept && memcmp(lent_table, table, ROOM) == 0;
+    if (!good) {
+        show(trial, got, expected);
+    }
+    return good;
+}
+
+uint16_t compare(const struct trial *trial, const char *what) {
+    uint8_t scratch[LONGEST];
+    uint16_t result;
+    record(agrees(trial, scratch, &result), what);
+    return result;
+}
+
+void expect(const struct trial *trial, unsigned refusal, const char *what) {
+    uint8_t scratch[LONGEST];
+    uint16_t result;
+    bool same = agrees(trial, scratch, &result);
+    record(same && cippazhey_refusal_of(result) == refusal, what);
+}
+
+void expect_whole(const struct trial *trial, unsigned share, const uint8_t *bytes, const char *what) {
+    uint8_t scratch[LONGEST];
+    uint16_t result;
+    bool same = agrees(trial, scratch, &result);
+    record(same && result == share && memcmp(scratch, bytes, trial->scratch_length) == 0, what);
+}

@@ -1,0 +1,49 @@
+// Calls to try, and one comparison of the exported plain call with the reference.
+#ifndef TRIAL_H
+#define TRIAL_H
+
+#include <stdbool.h>
+#include <stddef.h>
+#include <stdint.h>
+
+enum { METHOD, N, M, X0, R1, R2, S1, S2, R3, B, NUMBERS };
+// The longest table and scratch of a trial.
+enum { LONGEST = 600 };
+
+// A call to make: its numbers in the order of the parameters, its table, and the lengths to lend.
+struct trial {
+    uint32_t number[NUMBERS];
+    uint8_t table[LONGEST];
+    size_t table_length, scratch_length;
+};
+
+// How many comparisons came out well and ill, and how many calls met each refusal.
+extern unsigned long passed, failed, met[256];
+
+// Counts one comparison; the first that come out ill are printed.
+void record(bool good, const char *what);
+
+// A number below the limit. The numbers look random and are the same in every run.
+uint32_t below(uint32_t limit);
+
+// 2 to the exponent.
+uint32_t power(uint32_t exponent);
+
+// A call that is accepted: random masks, a random balanced table, and scratch that just suffices.
+struct trial accepted(uint32_t method, uint32_t n, uint32_t m);
+
+// The result of the exported call and of the reference, on the buffers given.
+uint16_t make_call(const struct trial *trial, const uint8_t *table, uint8_t *scratch);
+uint16_t make_reference_call(const struct trial *trial, const uint8_t *table, uint8_t *scratch);
+
+// Makes the call both ways on buffers with guards on both sides, and counts whether the result, the whole scratch, the guards
+// and the table are as they must be. Returns the exported call's result.
+uint16_t compare(const struct trial *trial, const char *what);
+
+// The same, and holds the refusal to a number.
+void expect(const struct trial *trial, unsigned refusal, const char *what);
+
+// The same, and holds the share and the scratch to their values.
+void expect_whole(const struct trial *trial, unsigned share, const uint8_t *bytes, const char *what);
+
+#endif
