@@ -4,15 +4,18 @@ use mathlib.Core.Logic.{_⊎_, inl, inr, ⊎-elim}
 use mathlib.Core.Bool.{Bool, true, false, _||_}
 use mathlib.Core.List.{List}
 use Prim.Native.Nat.{ℕ, _^_, _<_}
+use native.Mathlib.Nat.{lt-of-lt-of-le, le-trans}
 use native.Mathlib.Omega.{arith}
 use borrow.Author.Tests.{eqb-true, ltb-false, not-false}
 use lib.Dec.{ltb, eqb}
+use lib.Pow.{pow-mono}
 use Rattle.refusals.proofs.Checks.{passed, passed-both}
 use Rattle.refusals.proofs.Tests.{all-below}
 use Rattle.table.specs.Refusals.{table-checks, table-refusal}
 use Rattle.table.proofs.Refusals.{Table, table-accepted, table-numbered}
 use Rattle.lookup.specs.declared.Case.{Case}
 use Rattle.lookup.specs.Case.{Q, by-method}
+use Rattle.lookup.specs.Bounded.{Bounded}
 use Rattle.lookup.specs.Refusals.{case-refusal, case-checks, method-checks, mask-checks}
 use Rattle.lookup.proofs.ByMethod.{by-2, by-3}
 
@@ -63,4 +66,21 @@ accepted c table e =
       r3 = h3 .0;
       s1 = k1 .0;
       s2 = k2 .0;
+    }
+
+-- the numbers of an accepted case are bounded as the runs ask
+pub accepted-bounded : (c : Case) (table : List ℕ) → Accepted c table → Bounded c
+unfolding Q
+accepted-bounded c table k =
+    let byte : (v : ℕ) → v < 2 ^ c .m → v < 256 = λ v h. lt-of-lt-of-le h (pow-mono (le-trans (k .table .output-most) (k .table .input-most))) in
+    record {
+      width = k .table .input-most;
+      size = pow-mono (k .table .input-most);
+      x0 = k .x0;
+      r1 = k .r1;
+      r2 = k .r2;
+      r3 = k .r3;
+      s1 = byte (c .s1) (k .s1);
+      s2 = byte (c .s2) (k .s2);
+      b = ⊎-elim (λ h. omega (arith, h .1)) (λ h. h .1) (k .chosen);
     }

@@ -9,7 +9,7 @@ use Rattle.lookup.specs.Layout.{Layout, pass-lines, passes-lines, lines}
 
 module _ {A : Type 0} where
   -- as many lines in each turn
-  pass-long : (size k : ℕ) (pass : ℕ → List A) → ((a : ℕ) → length (pass a) ≡ size) → length (pass-lines k pass) ≡ k * size
+  pub pass-long : (size k : ℕ) (pass : ℕ → List A) → ((a : ℕ) → length (pass a) ≡ size) → length (pass-lines k pass) ≡ k * size
   unfolding pass-lines
   pass-long size zero pass h = sym (zero-mul size)
   pass-long size (suc k) pass h = length-append (pass-lines k pass) (pass k) ∙ rw (pass-long size k pass h, h k) (sym (suc-mul k size))

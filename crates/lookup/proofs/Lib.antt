@@ -7,4 +7,5 @@ pub mod Third
 pub mod Layouts
 pub mod Lines
 pub mod Sizes
+pub mod Runs
 pub mod Promises

@@ -6,4 +6,5 @@ pub mod Call
 pub mod Layout
 pub mod Log
 pub mod Refusals
+pub mod Bounded
 pub mod Promises

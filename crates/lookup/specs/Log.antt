@@ -17,6 +17,9 @@ infix 68 _∶_
 abbrev pub _∶_ : (kind value : ℕ) → Line
 kind ∶ value = record { kind = kind; value = value }
 
+abbrev pub value-of : Line → ℕ
+value-of l = l .value
+
 -- a 16-bit number: the high eight bits are the kind, the low eight the value
 unfoldable pub entry : Line → ℕ
 entry l = l .kind * 256 + l .value

@@ -1,13 +1,37 @@
-// The numbers of a masked table lookup. The definitions of both methods stand in specs/.
+// A masked table lookup's numbers, and the masked entry that both methods make. Their definitions stand in specs/.
+ghost use mathlib.Core.Path.{_≡_};
+ghost use Prim.Native.Nat.{_^_, _<_};
+ghost use lib.ListN.{length};
+ghost use Rattle.lookup.specs.Bounded.{Bounded};
+ghost use Rattle.lookup.specs.Method2.{masked};
+
 pub struct Case {
     pub method: u32,
     pub n: u32,
     pub m: u32,
-    pub x0: usize,
-    pub r1: usize,
-    pub r2: usize,
-    pub s1: u8,
-    pub s2: u8,
-    pub r3: usize,
-    pub b: u8,
+    pub x0: u32,
+    pub r1: u32,
+    pub r2: u32,
+    pub s1: u32,
+    pub s2: u32,
+    pub r3: u32,
+    pub b: u32,
+}
+
+// What a call hands back: its refusal, the answer share, and the count of log entries.
+pub struct Called {
+    pub refusal: u32,
+    pub share: u32,
+    pub count: u32,
+}
+
+// The table's entry for turn a, with the output masks added one after the other. It is for the methods' runs, so it has a `requires`.
+pub fn masked_entry(case: Case, table: &[u8], a: u16) -> u8
+    requires { ⌜ Bounded case ⌝ }
+    requires { ⌜ length (now table) ≡ 2 ^ case .n ⌝ }
+    requires { ⌜ a < 2 ^ case .n ⌝ }
+    ensures { λ r. ⌜ r ≡ masked case (now (table .entry)) a ⌝ }
+{
+    let index = case.x0 as usize ^ a as usize;
+    (table[index] ^ case.s1 as u8) ^ case.s2 as u8
 }

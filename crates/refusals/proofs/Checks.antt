@@ -1,11 +1,11 @@
 -- The laws of a list of checks, as code that goes through it needs them. Assumes nothing.
-use mathlib.Core.Path.{_≡_, refl}
+use mathlib.Core.Path.{_≡_, refl, sym}
 use mathlib.Core.Bool.{Bool, true, false, _&&_, cond, and-eq-true-iff}
 use mathlib.Core.List.{List, [], _∷_, _++_}
-use Prim.Native.Nat.{ℕ, suc, _<_}
+use Prim.Native.Nat.{ℕ, suc, _≤_, _<_}
 use native.Mathlib.Omega.{arith}
-use borrow.Author.Tests.{ltb-true}
-use lib.Dec.{ltb}
+use borrow.Author.Tests.{leb-true, ltb-true}
+use lib.Dec.{leb, ltb}
 use Rattle.refusals.specs.Checks.{Check, _when_, first-of}
 
 -- the first check applies
@@ -45,3 +45,37 @@ passed-both (c ∷ cs) ds h e =
     let here = past (c .applies) (c .number) (first-of (cs ++ ds)) (ltb-true 0 (c .number) (given .0)) e in
     let later = passed-both cs ds (given .1) (here .1) in
     (rw (here .0) (later .0), later .1)
+
+-- one list of checks after another: the first refuses, or it does not
+pub stops-both : {r : ℕ} (cs ds : List Check) → r ≡ first-of cs → (r ≡ 0 → ⊥) → r ≡ first-of (cs ++ ds)
+unfolding first-of
+stops-both [] ds e h = absurd (h e)
+stops-both {r} (c ∷ cs) ds e h = go (c .applies) e (λ f. stops-both cs ds f h)
+  where
+    go : (t : Bool) → r ≡ cond t (c .number) (first-of cs) → (r ≡ first-of cs → r ≡ first-of (cs ++ ds)) → r ≡ cond t (c .number) (first-of (cs ++ ds))
+    go true e f = e
+    go false e f = f e
+
+pub goes-both : {r : ℕ} (cs ds : List Check) → numbered cs ≡ true → 0 ≡ first-of cs → r ≡ first-of ds → r ≡ first-of (cs ++ ds)
+unfolding first-of numbered
+goes-both [] ds h e f = f
+goes-both (c ∷ cs) ds h e f =
+    let given = and-eq-true-iff (ltb 0 (c .number)) (numbered cs) .0 h in
+    let here = past (c .applies) (c .number) (first-of cs) (ltb-true 0 (c .number) (given .0)) (sym e) in
+    rw (here .0) (goes-both cs ds (given .1) (sym (here .1)) f)
+
+-- no check has a number above the most, and so no number above it is handed back
+unfoldable pub up-to : (most : ℕ) → List Check → Bool
+up-to most [] = true
+up-to most (c ∷ cs) = leb (c .number) most && up-to most cs
+
+pub first-most : (most : ℕ) (cs : List Check) → up-to most cs ≡ true → first-of cs ≤ most
+unfolding first-of up-to
+first-most most [] h = omega arith
+first-most most (c ∷ cs) h =
+    let both = and-eq-true-iff (leb (c .number) most) (up-to most cs) .0 h in
+    either (c .applies) (leb-true _ _ (both .0)) (first-most most cs (both .1))
+  where
+    either : (t : Bool) {k r : ℕ} → k ≤ most → r ≤ most → cond t k r ≤ most
+    either true h l = h
+    either false h l = l

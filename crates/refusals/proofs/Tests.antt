@@ -1,6 +1,6 @@
 -- The laws of the tests. Assumes nothing.
 use mathlib.Core.Path.{_≡_, refl, sym, _∙_}
-use mathlib.Core.Bool.{Bool, true, false, _||_, true≢false}
+use mathlib.Core.Bool.{Bool, true, false, _||_, true≢false, or-true}
 use mathlib.Core.List.{List, [], _∷_}
 use Prim.Native.Nat.{ℕ, _+_, _^_, _≤_, _<_}
 use native.Mathlib.Numerals.{add-one}
@@ -63,3 +63,12 @@ told e f = sym e ∙ f
 
 pub told-from : {r b : Bool} (size n : ℕ) (xs : List ℕ) → size ≡ 2 ^ n → r ≡ any-from size xs → r ≡ b → any-from (2 ^ n) xs ≡ b
 told-from size n xs s e f = rw s at (sym e ∙ f)
+
+-- a number that is the least or more, in front or behind
+pub some-here : (least x : ℕ) (xs : List ℕ) → least ≤ x → any-from least (x ∷ xs) ≡ true
+unfolding any-from
+some-here least x xs h = rw (le-leb least x h)
+
+pub some-later : (least x : ℕ) (xs : List ℕ) → any-from least xs ≡ true → any-from least (x ∷ xs) ≡ true
+unfolding any-from
+some-later least x xs e = rw e (or-true (leb least x))

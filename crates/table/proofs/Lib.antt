@@ -1,4 +1,6 @@
--- The laws of balanced tables and of their refusals.
+-- The laws of balanced tables, of their refusals and of the counts of their values.
 pub mod Balanced
 pub mod Even
 pub mod Refusals
+pub mod Counts
+pub mod Told

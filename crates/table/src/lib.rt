@@ -1,1 +1,63 @@
-// Balanced tables: what they are, which tables are refused, and what balance gives. It holds definitions and laws only, in specs/ and proofs/.
+// Balanced tables: which tables are refused, by one pass that counts how often each value stands in the table. What balance gives stands in specs/ and proofs/.
+ghost use mathlib.Core.Path.{_≡_};
+ghost use Prim.Native.Nat.{_≤_};
+ghost use lib.ListN.{length, replicate};
+ghost use Rattle.table.specs.Refusals.{table-refusal};
+ghost use Rattle.table.specs.Counts.{Tally, each-count};
+
+// The number of the first check that refuses the table or its widths, or 0.
+pub fn table_refusal(input_width: u32, output_width: u32, table: &[u8]) -> u32
+    ensures { λ r. ⌜ r ≡ table-refusal «input_width» «output_width» (now (table .entry)) ⌝ }
+{
+    if refusals::outside(1, 8, input_width) {
+        return 3;
+    }
+    if refusals::outside(1, input_width, output_width) {
+        return 4;
+    }
+    if table.len() != bits::power(input_width) as usize {
+        return 5;
+    }
+    let mut counts: [u16; 256] = [0; 256];
+    let joined = tally(table, &mut counts);
+    let limit = bits::power(output_width);
+    if limit <= joined as u32 {
+        return 6;
+    }
+    let times = bits::power(input_width - output_width);
+    if !each_often(&counts, limit as usize, times as u16) {
+        return 7;
+    }
+    0
+}
+
+// Counts each value of the table, and joins all entries by bitwise or. The caller has checked that there are at most 256 entries,
+// and hands in counts of zero, so it has a `requires`.
+fn tally(table: &[u8], counts: &mut [u16; 256]) -> u8
+    requires { ⌜ (length (now table) ≤ 256) × (now counts ≡ replicate 256 0) ⌝ }
+    ensures { λ r. ⌜ Tally (now (table .entry)) (now (counts .exit)) r ⌝ }
+{
+    let mut joined = 0;
+    let mut i = 0;
+    while i < table.len() {
+        let entry = table[i];
+        counts[entry as usize] += 1;
+        joined |= entry;
+        i += 1;
+    }
+    joined
+}
+
+// Whether each value below the limit was counted this often. The caller's limit is a power of two up to 256, so it has a `requires`.
+fn each_often(counts: &[u16; 256], limit: usize, times: u16) -> bool
+    requires { ⌜ limit ≤ 256 ⌝ }
+    ensures { λ r. ⌜ r ≡ each-count limit times (now (counts .entry)) ⌝ }
+{
+    let mut differing = 0;
+    let mut value = 0;
+    while value < limit {
+        differing |= counts[value] ^ times;
+        value += 1;
+    }
+    differing == 0
+}

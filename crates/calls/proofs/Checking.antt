@@ -1,0 +1,95 @@
+-- The lists of checks of both calls, part by part, as the code goes through them. Assumes nothing.
+use mathlib.Core.Path.{_≡_, refl, sym, ap, _∙_}
+use mathlib.Core.Bool.{Bool, true, false, not, _||_}
+use mathlib.Core.List.{List, [], _∷_, _++_}
+use Prim.Native.Nat.{ℕ, _^_, _≤_, _<_}
+use native.Mathlib.Nat.{le-trans}
+use native.Mathlib.Omega.{arith}
+use borrow.Author.Tests.{lt-ltb, le-ltb}
+use lib.Dec.{ltb, eqb}
+use lib.ListN.{length}
+use Rattle.refusals.specs.Checks.{_when_, first-of}
+use Rattle.refusals.proofs.Checks.{stops, goes, ends, numbered, passed-both, stops-both, goes-both}
+use Rattle.table.specs.Refusals.{table-checks, table-refusal}
+use Rattle.table.proofs.Refusals.{table-accepted, table-numbered}
+use Rattle.lookup.specs.declared.Case.{Case}
+use Rattle.lookup.specs.Case.{Q}
+use Rattle.lookup.specs.Log.{log-length}
+use Rattle.lookup.specs.Refusals.{method-checks, mask-checks, scratch-checks, log-checks, case-checks, case-refusal, plain-refusal, logged-refusal}
+use Rattle.lookup.proofs.Accepted.{Accepted, accepted}
+
+module _ (c : Case) (table : List ℕ) where
+  -- 2, then the table's numbers, then the masks'
+  module _ (r : Bool) (told : r ≡ not (eqb (c .method) 2 || eqb (c .method) 3)) where
+    pub at-2 : r ≡ true → 2 ≡ case-refusal c table
+    unfolding case-refusal case-checks method-checks
+    at-2 t = stops 2 _ (sym told ∙ t)
+
+    pub at-table : (k : ℕ) → r ≡ false → k ≡ table-refusal (c .n) (c .m) table → (k ≡ 0 → ⊥) → k ≡ case-refusal c table
+    unfolding case-refusal case-checks method-checks table-refusal
+    at-table k f e h = goes 2 _ (sym told ∙ f) (stops-both (table-checks (c .n) (c .m) table) (mask-checks c) e h)
+
+    pub at-masks : (k p : ℕ) → r ≡ false → k ≡ table-refusal (c .n) (c .m) table → k ≡ 0 → p ≡ first-of (mask-checks c) → p ≡ case-refusal c table
+    unfolding case-refusal case-checks method-checks table-refusal
+    at-masks k p f e z h =
+        goes 2 _ (sym told ∙ f) (goes-both (table-checks (c .n) (c .m) table) (mask-checks c) (table-numbered (c .n) (c .m) table) (sym z ∙ e) h)
+
+  -- the widths of an accepted table
+  pub input-most : (k : ℕ) → k ≡ table-refusal (c .n) (c .m) table → k ≡ 0 → c .n ≤ 8
+  input-most k e z = table-accepted (c .n) (c .m) table (sym e ∙ z) .input-most
+
+  pub output-most : (k : ℕ) → k ≡ table-refusal (c .n) (c .m) table → k ≡ 0 → c .m ≤ 8
+  output-most k e z = le-trans (table-accepted (c .n) (c .m) table (sym e ∙ z) .output-most) (input-most k e z)
+
+  -- the input's width of an accepted case leaves room for the shift
+  pub width-small : (k : ℕ) → k ≡ case-refusal c table → k ≡ 0 → c .n < 32
+  width-small k e z = omega (arith, accepted c table (sym e ∙ z) .table .input-most)
+
+  case-numbered : numbered (case-checks c table) ≡ true
+  unfolding numbered case-checks method-checks table-checks mask-checks
+  case-numbered = refl
+
+  module _ (scratch : List ℕ) where
+    -- 13
+    pub at-case : (k : ℕ) → k ≡ case-refusal c table → (k ≡ 0 → ⊥) → k ≡ plain-refusal c table scratch
+    unfolding case-refusal plain-refusal
+    at-case k e h = stops-both (case-checks c table) (scratch-checks c scratch) e h
+
+    pub at-13 : (k size : ℕ) → k ≡ case-refusal c table → k ≡ 0 → size ≡ 2 ^ c .n → length scratch < size → 13 ≡ plain-refusal c table scratch
+    unfolding case-refusal plain-refusal scratch-checks Q
+    at-13 k size e z s h = goes-both (case-checks c table) _ case-numbered (sym z ∙ e) (stops 13 _ (lt-ltb _ _ (rw s at h)))
+
+    pub at-room : (k size : ℕ) → k ≡ case-refusal c table → k ≡ 0 → size ≡ 2 ^ c .n → size ≤ length scratch → 0 ≡ plain-refusal c table scratch
+    unfolding case-refusal plain-refusal scratch-checks Q
+    at-room k size e z s h = goes-both (case-checks c table) _ case-numbered (sym z ∙ e) (goes 13 _ (le-ltb _ _ (rw s at h)) ends)
+
+    plain-numbered : numbered (case-checks c table ++ scratch-checks c scratch) ≡ true
+    unfolding numbered case-checks method-checks table-checks mask-checks scratch-checks
+    plain-numbered = refl
+
+    pub plain-case : plain-refusal c table scratch ≡ 0 → (case-refusal c table ≡ 0) × (first-of (scratch-checks c scratch) ≡ 0)
+    unfolding case-refusal plain-refusal
+    plain-case e = passed-both (case-checks c table) (scratch-checks c scratch) case-numbered e
+
+    pub width-most : (k : ℕ) → k ≡ plain-refusal c table scratch → k ≡ 0 → c .n ≤ 8
+    width-most k e z = accepted c table (plain-case (sym e ∙ z) .0) .table .input-most
+
+    module _ (log : List ℕ) where
+      -- 14
+      pub at-plain : (k : ℕ) → k ≡ plain-refusal c table scratch → (k ≡ 0 → ⊥) → k ≡ logged-refusal c table scratch log
+      unfolding plain-refusal logged-refusal
+      at-plain k e h = stops-both (case-checks c table ++ scratch-checks c scratch) (log-checks c log) e h
+
+      pub at-14 : (k size : ℕ) → k ≡ plain-refusal c table scratch → k ≡ 0 → size ≡ log-length (c .method) (c .n) → length log < size
+          → 14 ≡ logged-refusal c table scratch log
+      unfolding plain-refusal logged-refusal log-checks
+      at-14 k size e z s h = goes-both (case-checks c table ++ scratch-checks c scratch) _ plain-numbered (sym z ∙ e) (stops 14 _ (lt-ltb _ _ (rw s at h)))
+
+      pub at-end : (k size : ℕ) → k ≡ plain-refusal c table scratch → k ≡ 0 → size ≡ log-length (c .method) (c .n) → size ≤ length log
+          → 0 ≡ logged-refusal c table scratch log
+      unfolding plain-refusal logged-refusal log-checks
+      at-end k size e z s h = goes-both (case-checks c table ++ scratch-checks c scratch) _ plain-numbered (sym z ∙ e) (goes 14 _ (le-ltb _ _ (rw s at h)) ends)
+
+      pub logged-plain : logged-refusal c table scratch log ≡ 0 → (plain-refusal c table scratch ≡ 0) × (first-of (log-checks c log) ≡ 0)
+      unfolding plain-refusal logged-refusal
+      logged-plain e = passed-both (case-checks c table ++ scratch-checks c scratch) (log-checks c log) plain-numbered e

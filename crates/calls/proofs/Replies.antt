@@ -1,0 +1,136 @@
+-- What the calls hand back and leave behind, refused and accepted, from what their parts told. Assumes nothing.
+use mathlib.Core.Path.{_≡_, refl, sym, ap, ap₂, _∙_}
+use mathlib.Core.Logic.{_⊎_, inl, inr, ⊎-elim}
+use mathlib.Core.List.{List, map}
+use Prim.Native.Nat.{ℕ, zero, suc, _+_, _*_, _^_, _≤_}
+use native.Mathlib.Omega.{arith}
+use borrow.Author.Tests.{ltb-false}
+use mir.Syntax.{w32}
+use mir.Val.{Fits}
+use lib.ListN.{length}
+use Rattle.refusals.specs.Checks.{first-of}
+use Rattle.refusals.proofs.Checks.{passed, passed-both}
+use Rattle.log.specs.Written.{in-front}
+use Rattle.lookup.specs.declared.Case.{Case}
+use Rattle.lookup.specs.declared.Called.{Called}
+use Rattle.lookup.specs.Case.{Q}
+use Rattle.lookup.specs.Bounded.{Bounded}
+use Rattle.lookup.specs.Call.{answer, scratch-after}
+use Rattle.lookup.specs.Log.{log, log-length}
+use Rattle.lookup.specs.Refusals.{scratch-checks, log-checks, case-refusal, plain-refusal, logged-refusal}
+use Rattle.lookup.proofs.ByMethod.{by-2, by-3}
+use Rattle.lookup.proofs.Accepted.{Accepted, accepted, accepted-bounded}
+use Rattle.calls.specs.Reply.{called, left, plain-reply, plain-scratch, logged-reply, logged-scratch, logged-log}
+use Rattle.calls.proofs.Checking.{plain-case, logged-plain}
+
+called-refused : (j k share count : ℕ) → j ≡ k → (j ≡ 0 → ⊥) → record { refusal = j; share = 0; count = 0 } ≡ called k share count
+unfolding called
+called-refused zero k share count e h = absurd (h refl)
+called-refused (suc j) k share count e h = rw (← e)
+
+called-accepted : (j k share count : ℕ) → j ≡ k → j ≡ 0 → record { refusal = j; share = share; count = count } ≡ called k share count
+unfolding called
+called-accepted j k share count e z = rw (← e, z)
+
+left-refused : (j k : ℕ) (new old : List ℕ) → j ≡ k → (j ≡ 0 → ⊥) → old ≡ left k new old
+unfolding left
+left-refused zero k new old e h = absurd (h refl)
+left-refused (suc j) k new old e h = rw (← e)
+
+left-accepted : (j k : ℕ) (new old : List ℕ) → j ≡ k → j ≡ 0 → new ≡ left k new old
+unfolding left
+left-accepted j k new old e z = rw (← e, z)
+
+module _ (c : Case) (table scratch : List ℕ) (j : ℕ) (told : j ≡ plain-refusal c table scratch) where
+  pub plain-refused : (j ≡ 0 → ⊥) → record { refusal = j; share = 0; count = 0 } ≡ plain-reply c table scratch
+  unfolding plain-reply
+  plain-refused h = called-refused j _ _ _ told h
+
+  pub plain-kept : (j ≡ 0 → ⊥) → scratch ≡ plain-scratch c table scratch
+  unfolding plain-scratch
+  plain-kept h = left-refused j _ _ _ told h
+
+  pub plain-answered : (share : ℕ) → j ≡ 0 → share ≡ answer c table → record { refusal = j; share = share; count = 0 } ≡ plain-reply c table scratch
+  unfolding plain-reply
+  plain-answered share z e = rw e (called-accepted j _ _ _ told z)
+
+  pub plain-left : (now : List ℕ) → j ≡ 0 → now ≡ scratch-after c table scratch → now ≡ plain-scratch c table scratch
+  unfolding plain-scratch
+  plain-left now z e = e ∙ left-accepted j _ _ _ told z
+
+  -- what an accepted call knows
+  taken : j ≡ 0 → Accepted c table
+  taken z = accepted c table (plain-case c table scratch (sym told ∙ z) .0)
+
+  pub plain-method : j ≡ 0 → (c .method ≡ 2) ⊎ (c .method ≡ 3)
+  plain-method z = ⊎-elim (λ h. inl (h .0)) (λ h. inr (h .0)) (taken z .chosen)
+
+  pub plain-bounded : j ≡ 0 → Bounded c
+  plain-bounded z = accepted-bounded c table (taken z)
+
+  pub plain-table : j ≡ 0 → length table ≡ 2 ^ c .n
+  plain-table z = taken z .table .long
+
+  pub plain-room : j ≡ 0 → 2 ^ c .n ≤ length scratch
+  unfolding scratch-checks Q
+  plain-room z = ltb-false _ _ (passed _ 12 _ (plain-case c table scratch (sym told ∙ z) .1) .0)
+
+module _ (c : Case) (table scratch lent : List ℕ) (j : ℕ) (told : j ≡ logged-refusal c table scratch lent) where
+  pub logged-refused : (j ≡ 0 → ⊥) → record { refusal = j; share = 0; count = 0 } ≡ logged-reply c table scratch lent
+  unfolding logged-reply
+  logged-refused h = called-refused j _ _ _ told h
+
+  pub logged-kept : (j ≡ 0 → ⊥) → scratch ≡ logged-scratch c table scratch lent
+  unfolding logged-scratch
+  logged-kept h = left-refused j _ _ _ told h
+
+  pub log-kept : (j ≡ 0 → ⊥) → lent ≡ logged-log c table scratch lent
+  unfolding logged-log
+  log-kept h = left-refused j _ _ _ told h
+
+  pub logged-answered : (share count : ℕ) → j ≡ 0 → share ≡ answer c table → count ≡ log-length (c .method) (c .n)
+      → record { refusal = j; share = share; count = count } ≡ logged-reply c table scratch lent
+  unfolding logged-reply
+  logged-answered share count z e f = rw (e, f) (called-accepted j _ _ _ told z)
+
+  pub logged-left : (now : List ℕ) → j ≡ 0 → now ≡ scratch-after c table scratch → now ≡ logged-scratch c table scratch lent
+  unfolding logged-scratch
+  logged-left now z e = e ∙ left-accepted j _ _ _ told z
+
+  pub log-left : (now : List ℕ) → j ≡ 0 → now ≡ in-front (log c table) lent → now ≡ logged-log c table scratch lent
+  unfolding logged-log
+  log-left now z e = e ∙ left-accepted j _ _ _ told z
+
+  -- an accepted logged call knows what an accepted plain call knows, and that the log is long enough
+  both : j ≡ 0 → (plain-refusal c table scratch ≡ 0) × (first-of (log-checks c lent) ≡ 0)
+  both z = logged-plain c table scratch lent (sym told ∙ z)
+
+  pub logged-method : j ≡ 0 → (c .method ≡ 2) ⊎ (c .method ≡ 3)
+  logged-method z = plain-method c table scratch _ (sym (both z .0)) refl
+
+  pub logged-bounded : j ≡ 0 → Bounded c
+  logged-bounded z = plain-bounded c table scratch _ (sym (both z .0)) refl
+
+  pub logged-width : j ≡ 0 → c .n ≤ 8
+  logged-width z = logged-bounded z .width
+
+  pub logged-table : j ≡ 0 → length table ≡ 2 ^ c .n
+  logged-table z = plain-table c table scratch _ (sym (both z .0)) refl
+
+  pub logged-room : j ≡ 0 → 2 ^ c .n ≤ length scratch
+  logged-room z = plain-room c table scratch _ (sym (both z .0)) refl
+
+  pub log-room : j ≡ 0 → log-length (c .method) (c .n) ≤ length lent
+  unfolding log-checks
+  log-room z = ltb-false _ _ (passed _ 13 _ (both z .1) .0)
+
+  -- the count fits a u32
+  pub count-fits : (count : ℕ) → j ≡ 0 → count ≡ log-length (c .method) (c .n) → Fits w32 count
+  unfolding log-length
+  count-fits count z e = ⊎-elim (λ h. size (e ∙ by-2 _ _ _ h)) (λ h. size' (e ∙ by-3 _ _ _ h)) (logged-method z)
+    where
+      size : count ≡ 10 + 6 * 2 ^ c .n → Fits w32 count
+      size h = record { fits = omega (arith, h, logged-bounded z .size) }
+
+      size' : count ≡ 10 + 9 * 2 ^ c .n → Fits w32 count
+      size' h = record { fits = omega (arith, h, logged-bounded z .size) }

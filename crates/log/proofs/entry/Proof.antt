@@ -1,0 +1,15 @@
+-- `log::entry` meets its contract: the value does not reach the kind's bits. Assumes nothing.
+use mathlib.Core.Path.{_∙_, ap}
+use borrow.Author.Needs.{needs}
+use native.Mathlib.Omega.{arith}
+use lib.Bits.{bitOr, or-shifted}
+use lib.Pow.{shl-exact}
+use Rattle.log.proofs.entry.Statement.{statement}
+use Rattle.log.proofs.entry.Tie as tie
+
+returns : tie.Need-returns
+returns c =
+    ap (λ high. bitOr high (c .args .value)) (shl-exact 8 8 16 (c .fits .kind .fits) (omega arith)) ∙ or-shifted (c .args .kind) 8 (c .args .value) (c .fits .value .fits)
+
+pub entry-spec : {M : Type 1} → statement M
+entry-spec = tie.close (tie.spec returns)

@@ -1,0 +1,24 @@
+-- `log::put` meets its contract. The invariant is `Putting`: the first i entries stand in the log. Assumes nothing.
+use borrow.Author.Needs.{needs}
+use Prim.Native.Nat.{_-_}
+use native.Mathlib.Omega.{arith}
+use lib.ListN.{length}
+use Rattle.log.proofs.Written.{Putting, begins, turns, ends}
+use Rattle.log.proofs.put.Statement.{statement}
+use Rattle.log.proofs.put.Tie as tie
+
+abbrev Inv : tie.InvT-loop
+Inv log₀ position kinds values i₀ log i = Putting log₀ log position kinds values i
+
+abbrev μ : tie.MeasureT-loop
+μ log₀ position kinds values i₀ log i = length kinds - i
+
+-- a lent slice has less than 2^63 bytes, so the offset of its entry fits
+mul-log : tie.Need-mul-log Inv μ
+mul-log c = omega (arith, c .before .before .before .before .before .before .before .before)
+
+pub put-spec : {M : Type 1} → statement M
+put-spec =
+    tie.close
+    (tie.spec Inv μ (λ c. search begins) (λ c. search needs) (λ c. search needs) (λ c κs. search needs) (λ c. search needs) mul-log (λ c. search needs)
+    (λ c. search needs) (λ c. search needs) (λ c. search turns) (λ c. search needs) (λ c. search ends))

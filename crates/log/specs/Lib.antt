@@ -1,0 +1,3 @@
+-- The kinds of a log's entries, and what a written log holds.
+pub mod Kinds
+pub mod Written

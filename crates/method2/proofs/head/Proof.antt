@@ -1,0 +1,19 @@
+-- `method2::head` meets its contract. Assumes nothing.
+use mathlib.Core.Path.{refl}
+use borrow.Author.Needs.{needs}
+use Rattle.bits.specs.Xor.{_⊕_}
+use Rattle.lookup.specs.Method2.{r-prime}
+use Rattle.lookup.specs.Log.{head-2}
+use Rattle.lookup.proofs.Runs.{two-byte, three-byte}
+use Rattle.method2.proofs.head.Statement.{statement}
+use Rattle.method2.proofs.head.Tie as tie
+
+returns : tie.Need-returns
+unfolding head-2 r-prime _⊕_
+returns c = refl
+
+pub head-spec : {M : Type 1} → statement M
+head-spec =
+    tie.close
+    (tie.spec (λ c. search needs) (λ c. search needs) (λ c. search needs) (λ c. search needs) (λ c. search needs) (λ c. search needs)
+    (λ c. search two-byte) (λ c. search three-byte) returns)

@@ -1,0 +1,16 @@
+-- `method3::head` meets its contract. Assumes nothing.
+use mathlib.Core.Path.{refl}
+use borrow.Author.Needs.{needs}
+use Rattle.lookup.specs.Log.{head-3}
+use Rattle.method3.proofs.head.Statement.{statement}
+use Rattle.method3.proofs.head.Tie as tie
+
+returns : tie.Need-returns
+unfolding head-3
+returns c = refl
+
+pub head-spec : {M : Type 1} → statement M
+head-spec =
+    tie.close
+    (tie.spec (λ c. search needs) (λ c. search needs) (λ c. search needs) (λ c. search needs) (λ c. search needs) (λ c. search needs)
+    (λ c. search needs) (λ c. search needs) (λ c. search needs) returns)
