@@ -202,7 +202,7 @@ static void every_mask(struct trial trial, uint32_t n, uint32_t m) {
     }
 }
 
-// Every table of entries from 0 to 2^m; those that hold 2^m meet 6, those that are not balanced 7, and the others take every mask.
+// Every table of entries from 0 to 2^m: those that hold 2^m meet 6, the unbalanced ones 7, and the others take every mask.
 static void every_table(uint32_t n, uint32_t m, uint32_t balanced_tables) {
     uint32_t tables = 1, accepted_tables = 0;
     for (uint32_t place = 0; place < power(n); place++) {
