@@ -12,7 +12,7 @@ use Rattle.lookup.specs.Bounded.{Bounded}
 use Rattle.lookup.specs.Method3.{comparison-table, scratch-3, place-3, compared}
 use Rattle.lookup.proofs.Third.{comparison-long, place-below, compared-small}
 
--- the prepared scratch begins so
+-- the prepared scratch begins with it
 pub prepared : (c : Case) (before scratch : List ℕ) → scratch ≡ scratch-3 c before → take (Q c) scratch ≡ comparison-table c
 unfolding scratch-3
 prepared c before scratch e = rw e (take-at (comparison-table c) _ (Q c) (comparison-long c before))

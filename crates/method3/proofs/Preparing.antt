@@ -1,4 +1,4 @@
--- What the loop keeps that prepares the scratch: as many bytes from the front on are the other bit. Assumes nothing.
+-- What the loop keeps that prepares the scratch: so many bytes from the front on are 1 - b, here `other`. Assumes nothing.
 use mathlib.Core.Path.{_≡_, refl}
 use mathlib.Core.List.{List, _++_}
 use Prim.Native.Nat.{ℕ, _+_, _-_, _^_, _≤_, _<_}

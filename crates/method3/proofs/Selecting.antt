@@ -39,7 +39,7 @@ module _ (c : Case) (table : List ℕ) where
   unfolding answer-3 at
   answered registers e = ap (λ l. getD l (c .b) 0) e
 
--- the same with the turn's place as the call told it: the place is in the scratch, and the byte there is the bit
+-- a turn whose place the call told: the place is in the scratch, the byte there is a register's number, and the entry goes to that register
 module _ (c : Case) (scratch : List ℕ) (size a place : ℕ) (k : Bounded c) (f : take (Q c) scratch ≡ comparison-table c) where
   pub place-in-scratch : size ≡ 2 ^ c .n → a < size → place ≡ place-3 c a → place < length scratch
   place-in-scratch s h p = rw p (in-scratch c scratch a k (rw s at h) f)

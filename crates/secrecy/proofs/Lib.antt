@@ -4,3 +4,4 @@ pub mod Fine
 pub mod Shown
 pub mod Observed
 pub mod Promises
+pub mod Lent

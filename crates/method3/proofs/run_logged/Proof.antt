@@ -36,5 +36,5 @@ pub run-logged-spec : {M : Type 1} → statement M
 run-logged-spec =
     tie.close
     (tie.spec (λ c. search needs) (λ c κs. search needs) (λ c. search needs) (λ c κs. search needs) (λ c κs. search needs) (λ c κs. search needs)
-    (λ c κs. (search needs, (search needs, (prepared _ _ _ (c .before .before .before .before .before .prepare .ensures), (search needs, search needs))))) (λ c. search needs) (λ c. search needs) put-end-requires
-    (λ c. search needs) (λ c. search needs) returns)
+    (λ c κs. (search needs, (search needs, (prepared _ _ _ (c .before .before .before .before .before .prepare .ensures), (search needs, search needs)))))
+    (λ c. search needs) (λ c. search needs) put-end-requires (λ c. search needs) (λ c. search needs) returns)

@@ -16,5 +16,5 @@ pub select-spec : {M : Type 1} → statement M
 select-spec =
     tie.close
     (tie.spec Inv μ (λ c κs. search needs) (λ c. search needs) (λ c. search begins) (λ c κs. search needs) (λ c. search place-in-scratch)
-    (λ c. omega (arith, c .shared-slice-known3 .given (c .before .place .result))) (λ c κs. search needs) (λ c. search byte-a-register)
+    (λ c. omega (arith, c .shared-slice-known3 .given (c .before .place .result))) (λ c κs. search needs) (λ c. search (byte-a-register, needs))
     (λ c. search needs) (λ c. search needs) (λ c. search turns-by-byte) (λ c. search ends))

@@ -14,6 +14,6 @@ abbrev μ : tie.MeasureT-loop
 pub select-logged-spec : {M : Type 1} → statement M
 select-logged-spec =
     tie.close
-    (tie.spec Inv μ (λ c κs. search needs) (λ c. search needs) (λ c. search begins) (λ c κs. (search needs, (search needs, (search needs, search needs)))) (λ c. search needs) (λ c. search needs)
-    (λ c. search needs) (λ c. search in-registers) (λ c κs. search in-log) (λ c. search needs) (λ c. search needs) (λ c. search turns)
-    (λ c. search needs) (λ c. (search ends-registers, search ends-log)))
+    (tie.spec Inv μ (λ c κs. search needs) (λ c. search needs) (λ c. search begins)
+    (λ c κs. (search needs, (search needs, (search needs, search needs)))) (λ c. search needs) (λ c. search needs) (λ c. search needs) (λ c. search in-registers)
+    (λ c κs. search in-log) (λ c. search needs) (λ c. search needs) (λ c. search turns) (λ c. search needs) (λ c. (search ends-registers, search ends-log)))
