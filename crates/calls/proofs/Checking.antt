@@ -1,14 +1,14 @@
 -- The lists of checks of both calls, part by part, as the code goes through them. Assumes nothing.
-use mathlib.Core.Path.{_≡_, refl, sym, ap, _∙_}
+use mathlib.Core.Path.{_≡_, refl, sym, _∙_}
 use mathlib.Core.Bool.{Bool, true, false, not, _||_}
-use mathlib.Core.List.{List, [], _∷_, _++_}
+use mathlib.Core.List.{List, _++_}
 use Prim.Native.Nat.{ℕ, _^_, _≤_, _<_}
 use native.Mathlib.Nat.{le-trans}
 use native.Mathlib.Omega.{arith}
 use borrow.Author.Tests.{lt-ltb, le-ltb}
-use lib.Dec.{ltb, eqb}
+use lib.Dec.{eqb}
 use lib.ListN.{length}
-use Rattle.refusals.specs.Checks.{_when_, first-of}
+use Rattle.refusals.specs.Checks.{first-of}
 use Rattle.refusals.proofs.Checks.{stops, goes, ends, numbered, passed-both, stops-both, goes-both}
 use Rattle.table.specs.Refusals.{table-checks, table-refusal}
 use Rattle.table.proofs.Refusals.{table-accepted, table-numbered}
@@ -16,7 +16,7 @@ use Rattle.lookup.specs.declared.Case.{Case}
 use Rattle.lookup.specs.Case.{Q}
 use Rattle.lookup.specs.Log.{log-length}
 use Rattle.lookup.specs.Refusals.{method-checks, mask-checks, scratch-checks, log-checks, case-checks, case-refusal, plain-refusal, logged-refusal}
-use Rattle.lookup.proofs.Accepted.{Accepted, accepted}
+use Rattle.lookup.proofs.Accepted.{accepted}
 
 module _ (c : Case) (table : List ℕ) where
   -- 2, then the table's numbers, then the masks'

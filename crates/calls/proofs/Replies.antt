@@ -1,7 +1,7 @@
 -- What the calls hand back and leave behind, refused and accepted, from what their parts told. Assumes nothing.
-use mathlib.Core.Path.{_≡_, refl, sym, ap, ap₂, _∙_}
+use mathlib.Core.Path.{_≡_, refl, sym, _∙_}
 use mathlib.Core.Logic.{_⊎_, inl, inr, ⊎-elim}
-use mathlib.Core.List.{List, map}
+use mathlib.Core.List.{List}
 use Prim.Native.Nat.{ℕ, zero, suc, _+_, _*_, _^_, _≤_}
 use native.Mathlib.Omega.{arith}
 use borrow.Author.Tests.{ltb-false}
@@ -9,7 +9,7 @@ use mir.Syntax.{w32}
 use mir.Val.{Fits}
 use lib.ListN.{length}
 use Rattle.refusals.specs.Checks.{first-of}
-use Rattle.refusals.proofs.Checks.{passed, passed-both}
+use Rattle.refusals.proofs.Checks.{passed}
 use Rattle.log.specs.Written.{in-front}
 use Rattle.lookup.specs.declared.Case.{Case}
 use Rattle.lookup.specs.declared.Called.{Called}
@@ -17,7 +17,7 @@ use Rattle.lookup.specs.Case.{Q}
 use Rattle.lookup.specs.Bounded.{Bounded}
 use Rattle.lookup.specs.Call.{answer, scratch-after}
 use Rattle.lookup.specs.Log.{log, log-length}
-use Rattle.lookup.specs.Refusals.{scratch-checks, log-checks, case-refusal, plain-refusal, logged-refusal}
+use Rattle.lookup.specs.Refusals.{scratch-checks, log-checks, plain-refusal, logged-refusal}
 use Rattle.lookup.proofs.ByMethod.{by-2, by-3}
 use Rattle.lookup.proofs.Accepted.{Accepted, accepted, accepted-bounded}
 use Rattle.calls.specs.Reply.{called, left, plain-reply, plain-scratch, logged-reply, logged-scratch, logged-log}

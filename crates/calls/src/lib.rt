@@ -1,7 +1,6 @@
 // The logged and the plain call: masked table lookup on three shares, under method 2 or 3.
 ghost use mathlib.Core.Path.{_≡_};
 ghost use mathlib.Core.Logic.{_⊎_};
-ghost use mathlib.Core.List.{map};
 ghost use Prim.Native.Nat.{_^_, _≤_};
 ghost use lib.ListN.{length};
 ghost use Rattle.log.specs.Written.{in-front};

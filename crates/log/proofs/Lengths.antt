@@ -1,5 +1,5 @@
 -- The kind tables' lengths give the log's length under each method. Assumes nothing.
-use mathlib.Core.Path.{_≡_, sym, _∙_}
+use mathlib.Core.Path.{_≡_, sym}
 use Prim.Native.Nat.{ℕ, _+_, _*_, _^_}
 use native.Mathlib.Omega.{arith}
 use Rattle.lookup.specs.Log.{log-length}

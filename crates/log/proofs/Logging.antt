@@ -1,15 +1,15 @@
 -- How a log is written part by part: the turns of a pass one after the other, then head, pass and end together. Assumes nothing.
 use mathlib.Core.Path.{_≡_, refl, sym, ap, _∙_}
 use mathlib.Core.List.{List, [], _∷_, _++_, map, map-append, append-nil}
-use Prim.Native.Nat.{ℕ, zero, suc, _+_, _*_, _≤_, _<_}
+use Prim.Native.Nat.{ℕ, _+_, _*_, _≤_}
 use native.Mathlib.Nat.{add-zero}
 use native.Mathlib.Numerals.{add-one}
 use native.Mathlib.Omega.{arith}
-use lib.ListN.{length, take, drop, take-append-drop, length-append, length-map}
+use lib.ListN.{length, take-append-drop, length-append, length-map}
 use Rattle.lookup.specs.Layout.{Layout, pass-lines, passes-lines, lines}
 use Rattle.lookup.specs.Log.{Line, entry}
-use Rattle.lookup.proofs.Layouts.{pass-long, lines-long}
-use Rattle.log.specs.Written.{entries, written, in-front}
+use Rattle.lookup.proofs.Layouts.{pass-long}
+use Rattle.log.specs.Written.{written, in-front}
 use Rattle.log.proofs.Written.{written-more, written-long, written-front}
 
 entries-count : (ls : List Line) → length (map entry ls) ≡ length ls

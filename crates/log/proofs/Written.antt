@@ -6,7 +6,7 @@ use native.Mathlib.Nat.{zero-add, le-of-suc-le-suc, not-suc-le-zero}
 use native.Mathlib.Numerals.{add-one}
 use native.Mathlib.Omega.{arith}
 use lib.ListN.{length, getD, take, drop, set, length-append, length-drop, length-set}
-use lib.Seq.{paste, paste-zero, paste-suc, length-paste, take-length, drop-at, drop-drop, length-take-le, take-at}
+use lib.Seq.{paste, paste-zero, paste-suc, take-length, drop-at, drop-drop, length-take-le, take-at}
 use Rattle.log.specs.Written.{entries, written, in-front}
 
 pub entries-long : (ks vs : List ℕ) → length ks ≡ length vs → length (entries ks vs) ≡ length ks

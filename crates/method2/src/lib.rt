@@ -1,7 +1,7 @@
 // Method 2: the table is copied to the scratch, masked and in another order, and the answer is read there.
 // The calls have checked the case and measured the buffers, so the functions here have a `requires`.
 ghost use mathlib.Core.Path.{_≡_};
-ghost use mathlib.Core.List.{map, _++_};
+ghost use mathlib.Core.List.{map};
 ghost use Prim.Native.Nat.{_+_, _*_, _^_, _≤_, _<_};
 ghost use lib.ListN.{length};
 ghost use Rattle.bits.specs.Xor.{_⊕_};

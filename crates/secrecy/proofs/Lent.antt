@@ -1,13 +1,12 @@
 -- What an accepted logged call leaves in the lent log is the log that the third demand counts. Assumes nothing.
-use mathlib.Core.Path.{_≡_, refl, sym, ap, subst, _∙_}
-use mathlib.Core.List.{List, _++_}
+use mathlib.Core.Path.{_≡_, ap}
+use mathlib.Core.List.{List}
 use Prim.Native.Nat.{ℕ, _%_, _<_}
 use lib.ListN.{length, drop, List·getD-append}
 use Rattle.log.specs.Written.{in-front}
 use Rattle.table.specs.Balanced.{at}
 use Rattle.lookup.specs.Log.{log, log-length}
 use Rattle.lookup.specs.Promises.{Log-long}
-use Rattle.lookup.specs.Refusals.{logged-refusal}
 use Rattle.lookup.proofs.Promises.{log-long}
 use Rattle.calls.specs.Reply.{left, logged-log}
 use Rattle.calls.proofs.Checking.{plain-case, logged-plain}

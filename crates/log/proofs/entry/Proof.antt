@@ -1,6 +1,5 @@
 -- `log::entry` meets its contract: the value does not reach the kind's bits. Assumes nothing.
 use mathlib.Core.Path.{_∙_, ap}
-use borrow.Author.Needs.{needs}
 use native.Mathlib.Omega.{arith}
 use lib.Bits.{bitOr, or-shifted}
 use lib.Pow.{shl-exact}

@@ -1,7 +1,6 @@
 -- `method2::fill` meets its contract. The invariant is `Filling`. Assumes nothing.
 use borrow.Author.Needs.{needs}
 use Prim.Native.Nat.{_-_}
-use native.Mathlib.Omega.{arith}
 use Rattle.method2.proofs.Filling.{Filling, begins, turns, ends, in-scratch}
 use Rattle.method2.proofs.fill.Statement.{statement}
 use Rattle.method2.proofs.fill.Tie as tie

@@ -1,0 +1,67 @@
+// Runs one kind of call many times, for callgrind to count, or times all kinds beside each other.
+// speed KIND METHOD WIDTH TIMES   KIND: plain, logged, baseline_plain, baseline_logged, bare
+// speed time                      a table of nanoseconds a call, at n = m = 8
+#define _POSIX_C_SOURCE 199309L
+#include "baseline.h"
+#include <cippazhey.h>
+#include <stdio.h>
+#include <stdlib.h>
+#include <string.h>
+#include <time.h>
+
+uint32_t cippazhey_logged_call(uint32_t method, uint32_t n, uint32_t m, uint32_t x0, uint32_t r1, uint32_t r2, uint32_t s1,
+                               uint32_t s2, uint32_t r3, uint32_t b, const uint8_t *table, size_t table_length,
+                               uint8_t *scratch, size_t scratch_length, uint16_t *log, size_t log_length);
+
+static uint8_t table[256], scratch[256];
+static uint16_t log_entries[2400];
+static volatile unsigned sink;
+
+static unsigned call(const char *kind, const struct numbers *c) {
+    size_t length = (size_t)1 << c->n;
+    if (!strcmp(kind, "plain"))
+        return cippazhey_plain_call(c->method, c->n, c->m, c->x0, c->r1, c->r2, c->s1, c->s2, c->r3, c->b, table, length, scratch, 256);
+    if (!strcmp(kind, "logged"))
+        return cippazhey_logged_call(c->method, c->n, c->m, c->x0, c->r1, c->r2, c->s1, c->s2, c->r3, c->b, table, length, scratch, 256,
+                                     log_entries, 2400);
+    if (!strcmp(kind, "baseline_plain")) return baseline_plain(c, table, length, scratch, 256);
+    if (!strcmp(kind, "baseline_logged")) return baseline_logged(c, table, length, scratch, 256, log_entries, 2400);
+    if (!strcmp(kind, "bare")) return bare_plain(c, table, scratch);
+    return 0; // the harness alone
+}
+
+static void run(const char *kind, uint32_t method, uint32_t n, long times) {
+    uint32_t last = (1u << n) - 1;
+    struct numbers c = {method, n, n, 90 & last, 60 & last, 7 & last, 33 & last, 18 & last, 201 & last, method - 2};
+    for (unsigned i = 0; i <= last; i++) table[i] = (uint8_t)((i * 5 + 3) & last);
+    for (long i = 0; i < times; i++) {
+        unsigned result = call(kind, &c);
+        if (result >= 256) exit(3);
+        sink = result;
+        c.x0 = (c.x0 + 1) & last;
+    }
+}
+
+static double nanoseconds(const char *kind, uint32_t method) {
+    struct timespec from, to;
+    double best = 1e18;
+    for (int round = 0; round < 15; round++) {
+        clock_gettime(CLOCK_MONOTONIC, &from);
+        run(kind, method, 8, 2000);
+        clock_gettime(CLOCK_MONOTONIC, &to);
+        double each = ((to.tv_sec - from.tv_sec) * 1e9 + (double)(to.tv_nsec - from.tv_nsec)) / 2000;
+        if (each < best) best = each;
+    }
+    return best;
+}
+
+int main(int count, char **words) {
+    static const char *kinds[] = {"plain", "logged", "baseline_plain", "baseline_logged", "bare"};
+    if (count == 5) {
+        run(words[1], (uint32_t)atoi(words[2]), (uint32_t)atoi(words[3]), atol(words[4]));
+        return 0;
+    }
+    for (unsigned k = 0; k < 5; k++)
+        for (uint32_t method = 2; method <= 3; method++) printf("%s %u %.0f\n", kinds[k], method, nanoseconds(kinds[k], method));
+    return 0;
+}
