@@ -21,7 +21,7 @@ use Rattle.lookup.specs.Refusals.{scratch-checks, log-checks, plain-refusal, lo
 use Rattle.lookup.proofs.ByMethod.{by-2, by-3}
 use Rattle.lookup.proofs.Accepted.{Accepted, accepted, accepted-bounded}
 use Rattle.calls.specs.Reply.{called, left, plain-reply, plain-scratch, logged-reply, logged-scratch, logged-log}
-use Rattle.calls.proofs.Checking.{plain-case, logged-plain}
+use Rattle.call_checks.proofs.Checking.{plain-case, logged-plain}
 
 called-refused : (j k share count : ℕ) → j ≡ k → (j ≡ 0 → ⊥) → record { refusal = j; share = 0; count = 0 } ≡ called k share count
 unfolding called

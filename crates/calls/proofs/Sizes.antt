@@ -14,7 +14,7 @@ use Rattle.lookup.specs.Refusals.{method-checks, mask-checks, scratch-checks, c
 use Rattle.lookup.proofs.Accepted.{accepted}
 use Rattle.lookup.proofs.Promises.{answer-small}
 use Rattle.calls.specs.Reply.{called, plain-reply}
-use Rattle.calls.proofs.Checking.{plain-case}
+use Rattle.call_checks.proofs.Checking.{plain-case}
 
 module _ (c : Case) (table scratch : List ℕ) where
   number-small : plain-refusal c table scratch ≤ 13

@@ -9,9 +9,6 @@ ghost use Rattle.lookup.specs.Call.{answer, scratch-after};
 ghost use Rattle.lookup.specs.Log.{log-length};
 ghost use Rattle.lookup.specs.Log as Log;
 ghost use Rattle.calls.specs.Reply.{case as Reply·case, plain-reply, plain-scratch, logged-reply, logged-scratch, logged-log};
-
-mod refusal;
-
 use lookup::Called;
 use lookup::Case;
 
@@ -95,7 +92,7 @@ fn logged(case: Case, table: &[u8], scratch: &mut [u8], log: &mut [u16]) -> Call
     ensures { λ _. ⌜ now (scratch .exit) ≡ logged-scratch case (now (table .entry)) (now (scratch .entry)) (now (log .entry)) ⌝ }
     ensures { λ _. ⌜ now (log .exit) ≡ logged-log case (now (table .entry)) (now (scratch .entry)) (now (log .entry)) ⌝ }
 {
-    let refusal = refusal::refused_logged(case, table, scratch, log);
+    let refusal = call_checks::refused_logged(case, table, scratch, log);
     if refusal != 0 {
         return Called {
             refusal,
@@ -116,7 +113,7 @@ fn plain(case: Case, table: &[u8], scratch: &mut [u8]) -> Called
     ensures { λ r. ⌜ r ≡ plain-reply case (now (table .entry)) (now (scratch .entry)) ⌝ }
     ensures { λ _. ⌜ now (scratch .exit) ≡ plain-scratch case (now (table .entry)) (now (scratch .entry)) ⌝ }
 {
-    let refusal = refusal::refused_plain(case, table, scratch);
+    let refusal = call_checks::refused_plain(case, table, scratch);
     if refusal != 0 {
         return Called {
             refusal,

@@ -9,7 +9,7 @@ use Rattle.lookup.specs.Log.{log, log-length}
 use Rattle.lookup.specs.Promises.{Log-long}
 use Rattle.lookup.proofs.Promises.{log-long}
 use Rattle.calls.specs.Reply.{left, logged-log}
-use Rattle.calls.proofs.Checking.{plain-case, logged-plain}
+use Rattle.call_checks.proofs.Checking.{plain-case, logged-plain}
 use Rattle.secrecy.specs.Count.{case-of, value-at}
 use Rattle.secrecy.specs.Lent.{Lent-log-counted}
 

@@ -1,8 +1,8 @@
--- `calls::refusal::refused_masks` meets its contract. Assumes nothing.
+-- `call_checks::refused_masks` meets its contract. Assumes nothing.
 use borrow.Author.Needs.{needs}
-use Rattle.calls.proofs.Masks.{wide-x0, wide-r1, wide-r2, wide-r3, wide-s1, wide-s2, wide-b, none-wide}
-use Rattle.calls.proofs.refusal.refused_masks.Statement.{statement}
-use Rattle.calls.proofs.refusal.refused_masks.Tie as tie
+use Rattle.call_checks.proofs.Masks.{wide-x0, wide-r1, wide-r2, wide-r3, wide-s1, wide-s2, wide-b, none-wide}
+use Rattle.call_checks.proofs.refused_masks.Statement.{statement}
+use Rattle.call_checks.proofs.refused_masks.Tie as tie
 
 pub refused-masks-spec : {M : Type 1} → statement M
 refused-masks-spec =

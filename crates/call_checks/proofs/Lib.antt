@@ -1,0 +1,3 @@
+-- The checks as the code goes through them.
+pub mod Masks
+pub mod Checking
