@@ -1,0 +1,23 @@
+// Prints the log of the case sheet on standard input, or the number of its refusal.
+use libc::STDIN_FILENO;
+use libc::STDOUT_FILENO;
+
+// The front of the output. The print is never longer than its array, which this tests once more instead of proving it here.
+fn write_front(bytes: &[u8], length: usize) {
+    if length <= bytes.len() {
+        io::write_all(STDOUT_FILENO, &bytes[..length]);
+    }
+}
+
+fn write_print(output: &[u8; 32768], length: usize) {
+    write_front(output, length);
+}
+
+fn main() {
+    // longer than any legal sheet, so that over-length shows
+    let mut input = io::buffer();
+    let got = io::read_full(STDIN_FILENO, &mut input);
+    let mut output = [0u8; 32768];
+    let length = sheet::print(&input[..got], &mut output);
+    write_print(&output, length);
+}

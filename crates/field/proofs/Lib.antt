@@ -1,0 +1,4 @@
+-- The laws of fields and of printed numbers.
+pub mod Reading
+pub mod Printing
+pub mod Promises

@@ -1,0 +1,17 @@
+-- `field::mark` meets its contract. Assumes nothing.
+use borrow.Author.Needs.{needs}
+use borrow.Author.Tests.{eq-eqb, ne-eqb}
+use Rattle.field.specs.Printed.{mark}
+use Rattle.field.proofs.mark.Statement.{statement}
+use Rattle.field.proofs.mark.Tie as tie
+
+returns : tie.Need-returns
+unfolding mark
+returns c = rw (eq-eqb _ _ (c .if1 .taken))
+
+returns-2 : tie.Need-returns-2
+unfolding mark
+returns-2 c = rw (ne-eqb _ _ (c .if1 .left))
+
+pub mark-spec : {M : Type 1} → statement M
+mark-spec = tie.close (tie.spec returns (λ c. search needs) (λ c. search needs) returns-2)

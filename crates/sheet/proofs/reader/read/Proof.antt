@@ -1,0 +1,12 @@
+-- `sheet::reader::read` meets its contract. Assumes nothing.
+use borrow.Author.Needs.{needs}
+use Rattle.sheet.proofs.Sheets.{short-refused, short-table, few-entries, other-refused, table-left, taken}
+use Rattle.sheet.proofs.reader.read.Statement.{statement}
+use Rattle.sheet.proofs.reader.read.Tie as tie
+
+pub read-spec : {M : Type 1} → statement M
+read-spec =
+    tie.close
+    (tie.spec (λ c κs. search needs) (λ c. (search short-refused, search short-table)) (λ c. search needs) (λ c κs. search needs) (λ c. search needs)
+    (λ c. search needs) (λ c. search needs) (λ c κs. search needs) (λ c κs. (search needs, search few-entries)) (λ c κs. search needs)
+    (λ c. (search other-refused, search table-left)) (λ c κs. search needs) (λ c. (search taken, search table-left)))

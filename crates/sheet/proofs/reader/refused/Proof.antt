@@ -1,0 +1,12 @@
+-- `sheet::reader::refused` meets its contract. Assumes nothing.
+use mathlib.Core.Path.{refl}
+use Rattle.sheet.specs.Sheet.{case-of, refused}
+use Rattle.sheet.proofs.reader.refused.Statement.{statement}
+use Rattle.sheet.proofs.reader.refused.Tie as tie
+
+returns : tie.Need-returns
+unfolding refused case-of
+returns c = refl
+
+pub refused-spec : {M : Type 1} → statement M
+refused-spec = tie.close (tie.spec returns)
