@@ -1,5 +1,8 @@
 # `make` proves everything and builds what a user links or runs; `make test` is the gate.
-.PHONY: all lib demo sbox speed test
+.PHONY: all lib bench demo sbox speed test
+
+# the case sheet that `make bench` prints
+SHEET = examples/p1.sheet
 
 all: lib
 	rt check
@@ -8,6 +11,12 @@ all: lib
 lib:
 	@mkdir -p target
 	@rt staticlib cippazhey > target/lib.log 2>&1 || { cat target/lib.log; exit 1; }
+
+# the log of a case sheet, printed by the proved program
+bench:
+	@mkdir -p target
+	@rt check bench > target/bench.log 2>&1 || { cat target/bench.log; exit 1; }
+	@target/bin/bench < $(SHEET)
 
 # a masked lookup from C, on the proved archive
 demo: lib
