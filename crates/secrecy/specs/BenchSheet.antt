@@ -9,6 +9,7 @@ use Rattle.linear.specs.Layer.{layer}
 use Rattle.lookup.specs.declared.Case.{Case}
 use Rattle.lookup.specs.Call.{answer, scratch-after}
 use Rattle.lookup.specs.Refusals.{case-refusal, logged-refusal}
+use Rattle.calls.specs.Reply.{case}
 use Rattle.secrecy.specs.Count.{mask-widths, count}
 
 pub record Line : Type 0 where
@@ -18,10 +19,6 @@ pub record Line : Type 0 where
 infix 68 _says_
 abbrev pub _says_ : (comes-to paper : List ℕ) → Line
 found says paper = record { comes-to = found; paper = paper }
-
-abbrev case : (method n m x0 r1 r2 s1 s2 r3 b : ℕ) → Case
-case method n m x0 r1 r2 s1 s2 r3 b =
-    record { method = method; n = n; m = m; x0 = x0; r1 = r1; r2 = r2; s1 = s1; s2 = s2; r3 = r3; b = b }
 
 -- table A, and the call of P2
 abbrev A : List ℕ
