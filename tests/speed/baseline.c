@@ -1,6 +1,14 @@
-// The calls in C, as a careful engineer would write them without proofs: see baseline.h.
+// The calls in C, as a careful engineer would write them without proofs: see baseline.h. Compiled twice, the second time with -DGUARDED.
 #include "baseline.h"
 #include <string.h>
+
+#ifdef GUARDED
+#define NAME(name) guarded_##name
+#define BARRIER(value) __asm__ volatile("" : "+r"(value))
+#else
+#define NAME(name) baseline_##name
+#define BARRIER(value) (void)0
+#endif
 
 static unsigned table_refusal(uint32_t n, uint32_t m, const uint8_t *table, size_t length) {
     uint16_t counts[256];
@@ -18,41 +26,65 @@ static unsigned table_refusal(uint32_t n, uint32_t m, const uint8_t *table, size
     return differing ? 7 : 0;
 }
 
-static unsigned refusal(const struct numbers *c, const uint8_t *table, size_t table_length, size_t scratch_length) {
-    if (c->method != 2 && c->method != 3) return 2;
-    unsigned number = table_refusal(c->n, c->m, table, table_length);
-    if (number) return number;
-    uint32_t inputs = 1u << c->n, outputs = 1u << c->m;
-    if (c->x0 >= inputs || c->r1 >= inputs || c->r2 >= inputs || c->r3 >= inputs) return 10;
-    if (c->s1 >= outputs || c->s2 >= outputs) return 11;
-    if (c->b > c->method - 2) return 12;
-    if (scratch_length < inputs) return 13;
-    return 0;
+// A comparison that is not merged with another: the greater of two shares is a number of both.
+static inline unsigned from(uint32_t limit, uint32_t value) {
+    unsigned at_least = value >= limit;
+    BARRIER(at_least);
+    return at_least;
 }
 
-static uint8_t plain_2(const struct numbers *c, const uint8_t *table, uint8_t *scratch) {
-    size_t turns = (size_t)1 << c->n, r_prime = (c->r1 ^ c->r3) ^ c->r2, x0 = c->x0;
-    uint8_t s1 = (uint8_t)c->s1, s2 = (uint8_t)c->s2;
-    for (size_t a = 0; a < turns; a++) scratch[a ^ r_prime] = (table[x0 ^ a] ^ s1) ^ s2;
-    return scratch[c->r3];
+static unsigned mask_refusal(uint32_t method, uint32_t inputs, uint32_t outputs, uint32_t x0, uint32_t r1, uint32_t r2, uint32_t s1,
+                             uint32_t s2, uint32_t r3, uint32_t b, size_t scratch_length) {
+    if (from(inputs, x0) || from(inputs, r1) || from(inputs, r2) || from(inputs, r3)) return 10;
+    if (from(outputs, s1) || from(outputs, s2)) return 11;
+    if (b > method - 2) return 12;
+    return scratch_length < inputs ? 13 : 0;
 }
 
-static uint8_t plain_3(const struct numbers *c, const uint8_t *table, uint8_t *scratch) {
-    size_t turns = (size_t)1 << c->n, r1 = c->r1, r2 = c->r2, r3 = c->r3, x0 = c->x0;
-    uint8_t s1 = (uint8_t)c->s1, s2 = (uint8_t)c->s2, b = (uint8_t)c->b, registers[2] = {0, 0};
+static uint8_t plain_2(uint32_t n, size_t x0, size_t r1, size_t r2, uint8_t s1, uint8_t s2, size_t r3, const uint8_t *table, uint8_t *scratch) {
+    size_t turns = (size_t)1 << n, mixed = r1 ^ r3;
+    BARRIER(mixed);
+    mixed ^= r2;
+    for (size_t a = 0; a < turns; a++) {
+        uint8_t entry = table[x0 ^ a] ^ s1;
+        BARRIER(entry);
+        scratch[a ^ mixed] = entry ^ s2;
+    }
+    return scratch[r3];
+}
+
+static uint8_t plain_3(uint32_t n, size_t x0, size_t r1, size_t r2, uint8_t s1, uint8_t s2, size_t r3, uint8_t b, const uint8_t *table,
+                       uint8_t *scratch) {
+    size_t turns = (size_t)1 << n;
+    uint8_t registers[2] = {0, 0};
     memset(scratch, 1 - b, turns);
     scratch[r3] = b;
-    for (size_t a = 0; a < turns; a++) registers[scratch[((r1 ^ a) ^ r3) ^ r2]] = (table[x0 ^ a] ^ s1) ^ s2;
+    for (size_t a = 0; a < turns; a++) {
+        size_t place = (r1 ^ a) ^ r3;
+        uint8_t entry = table[x0 ^ a] ^ s1;
+        BARRIER(place);
+        BARRIER(entry);
+        registers[scratch[place ^ r2]] = entry ^ s2;
+    }
     return registers[b];
 }
 
-uint8_t bare_plain(const struct numbers *c, const uint8_t *table, uint8_t *scratch) {
-    return c->method == 2 ? plain_2(c, table, scratch) : plain_3(c, table, scratch);
+static inline uint8_t bare(uint32_t method, uint32_t n, uint32_t x0, uint32_t r1, uint32_t r2, uint32_t s1, uint32_t s2, uint32_t r3,
+                           uint32_t b, const uint8_t *table, uint8_t *scratch) {
+    return method == 2 ? plain_2(n, x0, r1, r2, (uint8_t)s1, (uint8_t)s2, r3, table, scratch)
+                       : plain_3(n, x0, r1, r2, (uint8_t)s1, (uint8_t)s2, r3, (uint8_t)b, table, scratch);
 }
 
-uint16_t baseline_plain(const struct numbers *c, const uint8_t *table, size_t table_length, uint8_t *scratch, size_t scratch_length) {
-    unsigned number = refusal(c, table, table_length, scratch_length);
-    return (uint16_t)(number ? number * 256 : bare_plain(c, table, scratch));
+PLAIN_CALL(NAME(bare_call)) {
+    (void)m, (void)table_length, (void)scratch_length;
+    return bare(method, n, x0, r1, r2, s1, s2, r3, b, table, scratch);
+}
+
+PLAIN_CALL(NAME(plain_call)) {
+    if (method != 2 && method != 3) return 2 * 256;
+    unsigned number = table_refusal(n, m, table, table_length);
+    if (!number) number = mask_refusal(method, 1u << n, 1u << m, x0, r1, r2, s1, s2, r3, b, scratch_length);
+    return (uint16_t)(number ? number * 256 : bare(method, n, x0, r1, r2, s1, s2, r3, b, table, scratch));
 }
 
 static uint16_t *put(uint16_t *log, unsigned kind, unsigned value) {
@@ -60,43 +92,46 @@ static uint16_t *put(uint16_t *log, unsigned kind, unsigned value) {
     return log + 1;
 }
 
-static uint8_t logged_2(const struct numbers *c, const uint8_t *table, uint8_t *scratch, uint16_t *log) {
-    size_t turns = (size_t)1 << c->n;
-    unsigned mixed = c->r1 ^ c->r3, r_prime = mixed ^ c->r2;
-    log = put(put(put(put(log, 10, c->x0), 1, c->r1), 2, c->r2), 3, c->s1);
-    log = put(put(put(put(log, 4, c->s2), 5, c->r3), 6, mixed), 7, r_prime);
-    for (unsigned a = 0; a < turns; a++) {
-        unsigned place = a ^ r_prime, from = c->x0 ^ a, entry = table[from], first = entry ^ c->s1, both = first ^ c->s2;
+static uint8_t logged_2(uint32_t n, uint32_t x0, uint32_t r1, uint32_t r2, uint32_t s1, uint32_t s2, uint32_t r3, const uint8_t *table,
+                        uint8_t *scratch, uint16_t *log) {
+    uint32_t turns = 1u << n, mixed = r1 ^ r3, first = mixed ^ r2;
+    log = put(put(put(put(log, 10, x0), 1, r1), 2, r2), 3, s1);
+    log = put(put(put(put(log, 4, s2), 5, r3), 6, mixed), 7, first);
+    for (uint32_t a = 0; a < turns; a++) {
+        uint32_t place = a ^ first, from = x0 ^ a, entry = table[from], once = entry ^ s1, both = once ^ s2;
         scratch[place] = (uint8_t)both;
-        log = put(put(put(put(put(put(log, 8, a), 9, place), 11, from), 12, entry), 13, first), 14, both);
+        log = put(put(put(put(put(put(log, 8, a), 9, place), 11, from), 12, entry), 13, once), 14, both);
     }
-    uint8_t answer = scratch[c->r3];
-    put(put(log, 5, c->r3), 15, answer);
+    uint8_t answer = scratch[r3];
+    put(put(log, 5, r3), 15, answer);
     return answer;
 }
 
-static uint8_t logged_3(const struct numbers *c, const uint8_t *table, uint8_t *scratch, uint16_t *log) {
-    size_t turns = (size_t)1 << c->n;
+static uint8_t logged_3(uint32_t n, uint32_t x0, uint32_t r1, uint32_t r2, uint32_t s1, uint32_t s2, uint32_t r3, uint32_t b,
+                        const uint8_t *table, uint8_t *scratch, uint16_t *log) {
+    uint32_t turns = 1u << n;
     uint8_t registers[2] = {0, 0};
-    memset(scratch, (int)(1 - c->b), turns);
-    scratch[c->r3] = (uint8_t)c->b;
-    log = put(put(put(put(log, 11, c->x0), 1, c->r1), 2, c->r2), 3, c->s1);
-    log = put(put(put(put(log, 4, c->s2), 6, c->b), 5, c->r3), 18, 1 - c->b);
-    for (unsigned a = 0; a < turns; a++) {
-        unsigned p = c->r1 ^ a, q = p ^ c->r3, place = q ^ c->r2, compared = scratch[place];
-        unsigned from = c->x0 ^ a, entry = table[from], first = entry ^ c->s1, both = first ^ c->s2;
+    memset(scratch, (int)(1 - b), turns);
+    scratch[r3] = (uint8_t)b;
+    log = put(put(put(put(log, 11, x0), 1, r1), 2, r2), 3, s1);
+    log = put(put(put(put(log, 4, s2), 6, b), 5, r3), 18, 1 - b);
+    for (uint32_t a = 0; a < turns; a++) {
+        uint32_t once = r1 ^ a, twice = once ^ r3, place = twice ^ r2, compared = scratch[place];
+        uint32_t from = x0 ^ a, entry = table[from], first = entry ^ s1, both = first ^ s2;
         registers[compared] = (uint8_t)both;
-        log = put(put(put(put(put(log, 7, a), 8, p), 9, q), 17, place), 10, compared);
+        log = put(put(put(put(put(log, 7, a), 8, once), 9, twice), 17, place), 10, compared);
         log = put(put(put(put(log, 12, from), 13, entry), 14, first), 15, both);
     }
-    put(put(log, 6, c->b), 16, registers[c->b]);
-    return registers[c->b];
+    put(put(log, 6, b), 16, registers[b]);
+    return registers[b];
 }
 
-uint16_t baseline_logged(const struct numbers *c, const uint8_t *table, size_t table_length, uint8_t *scratch, size_t scratch_length,
-                         uint16_t *log, size_t log_length) {
-    unsigned number = refusal(c, table, table_length, scratch_length);
+LOGGED_CALL(NAME(logged_call)) {
+    if (method != 2 && method != 3) return 2 * 256;
+    unsigned number = table_refusal(n, m, table, table_length);
+    if (!number) number = mask_refusal(method, 1u << n, 1u << m, x0, r1, r2, s1, s2, r3, b, scratch_length);
+    if (!number && log_length < 10 + ((size_t)(method == 2 ? 6 : 9) << n)) number = 14;
     if (number) return (uint16_t)(number * 256);
-    if (log_length < 10 + ((size_t)(c->method == 2 ? 6 : 9) << c->n)) return 14 * 256;
-    return c->method == 2 ? logged_2(c, table, scratch, log) : logged_3(c, table, scratch, log);
+    return method == 2 ? logged_2(n, x0, r1, r2, s1, s2, r3, table, scratch, log)
+                       : logged_3(n, x0, r1, r2, s1, s2, r3, b, table, scratch, log);
 }

@@ -1,20 +1,27 @@
-// The calls in C, to measure against: the same algorithms with the same checks, and the loops alone.
+// The calls in C, to measure against and to try the audit on: the same algorithms with the same checks, and the loops alone.
+// baseline_* is C as it comes; guarded_* is the same with compiler barriers between exclusive ors with masks.
 #ifndef BASELINE_H
 #define BASELINE_H
 
 #include <stddef.h>
 #include <stdint.h>
 
-struct numbers {
-    uint32_t method, n, m, x0, r1, r2, s1, s2, r3, b;
-};
+#define PLAIN_CALL(name)                                                                                                        \
+    uint16_t name(uint32_t method, uint32_t n, uint32_t m, uint32_t x0, uint32_t r1, uint32_t r2, uint32_t s1, uint32_t s2,      \
+                  uint32_t r3, uint32_t b, const uint8_t *table, size_t table_length, uint8_t *scratch, size_t scratch_length)
+#define LOGGED_CALL(name)                                                                                                       \
+    uint16_t name(uint32_t method, uint32_t n, uint32_t m, uint32_t x0, uint32_t r1, uint32_t r2, uint32_t s1, uint32_t s2,      \
+                  uint32_t r3, uint32_t b, const uint8_t *table, size_t table_length, uint8_t *scratch, size_t scratch_length,   \
+                  uint16_t *log, size_t log_length)
 
 // refusal * 256 + share
-uint16_t baseline_plain(const struct numbers *c, const uint8_t *table, size_t table_length, uint8_t *scratch, size_t scratch_length);
-uint16_t baseline_logged(const struct numbers *c, const uint8_t *table, size_t table_length, uint8_t *scratch, size_t scratch_length,
-                         uint16_t *log, size_t log_length);
+PLAIN_CALL(baseline_plain_call);
+PLAIN_CALL(guarded_plain_call);
+LOGGED_CALL(baseline_logged_call);
+LOGGED_CALL(guarded_logged_call);
 
 // the share; nothing is checked
-uint8_t bare_plain(const struct numbers *c, const uint8_t *table, uint8_t *scratch);
+PLAIN_CALL(baseline_bare_call);
+PLAIN_CALL(guarded_bare_call);
 
 #endif

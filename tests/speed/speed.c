@@ -1,5 +1,5 @@
 // Runs one kind of call many times, for callgrind to count, or times all kinds beside each other.
-// speed KIND METHOD WIDTH TIMES   KIND: plain, logged, baseline_plain, baseline_logged, bare
+// speed KIND METHOD WIDTH TIMES   KIND: one of the kinds of call(), or none
 // speed time                      a table of nanoseconds a call, at n = m = 8
 #define _POSIX_C_SOURCE 199309L
 #include "baseline.h"
@@ -17,16 +17,23 @@ static uint8_t table[256], scratch[256];
 static uint16_t log_entries[2400];
 static volatile unsigned sink;
 
+struct numbers {
+    uint32_t method, n, m, x0, r1, r2, s1, s2, r3, b;
+};
+
+#define CALL(name) name(c->method, c->n, c->m, c->x0, c->r1, c->r2, c->s1, c->s2, c->r3, c->b, table, length, scratch, 256)
+#define LOGGED(name) \
+    name(c->method, c->n, c->m, c->x0, c->r1, c->r2, c->s1, c->s2, c->r3, c->b, table, length, scratch, 256, log_entries, 2400)
+
 static unsigned call(const char *kind, const struct numbers *c) {
     size_t length = (size_t)1 << c->n;
-    if (!strcmp(kind, "plain"))
-        return cippazhey_plain_call(c->method, c->n, c->m, c->x0, c->r1, c->r2, c->s1, c->s2, c->r3, c->b, table, length, scratch, 256);
-    if (!strcmp(kind, "logged"))
-        return cippazhey_logged_call(c->method, c->n, c->m, c->x0, c->r1, c->r2, c->s1, c->s2, c->r3, c->b, table, length, scratch, 256,
-                                     log_entries, 2400);
-    if (!strcmp(kind, "baseline_plain")) return baseline_plain(c, table, length, scratch, 256);
-    if (!strcmp(kind, "baseline_logged")) return baseline_logged(c, table, length, scratch, 256, log_entries, 2400);
-    if (!strcmp(kind, "bare")) return bare_plain(c, table, scratch);
+    if (!strcmp(kind, "plain")) return CALL(cippazhey_plain_call);
+    if (!strcmp(kind, "logged")) return LOGGED(cippazhey_logged_call);
+    if (!strcmp(kind, "baseline_plain")) return CALL(baseline_plain_call);
+    if (!strcmp(kind, "guarded_plain")) return CALL(guarded_plain_call);
+    if (!strcmp(kind, "baseline_logged")) return LOGGED(baseline_logged_call);
+    if (!strcmp(kind, "baseline_bare")) return CALL(baseline_bare_call);
+    if (!strcmp(kind, "guarded_bare")) return CALL(guarded_bare_call);
     return 0; // the harness alone
 }
 
@@ -56,7 +63,7 @@ static double nanoseconds(const char *kind, uint32_t method) {
 }
 
 int main(int count, char **words) {
-    static const char *kinds[] = {"plain", "logged", "baseline_plain", "baseline_logged", "bare"};
+    static const char *kinds[] = {"plain", "logged", "baseline_plain", "guarded_plain", "baseline_logged"};
     if (count == 5) {
         run(words[1], (uint32_t)atoi(words[2]), (uint32_t)atoi(words[3]), atol(words[4]));
         return 0;

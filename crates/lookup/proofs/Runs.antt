@@ -4,7 +4,7 @@ use mathlib.Core.List.{List}
 use Prim.Native.Nat.{ℕ, _^_, _<_}
 use native.Mathlib.Nat.{lt-of-lt-of-le}
 use native.Mathlib.Omega.{arith}
-use mir.Syntax.{w8}
+use mir.Syntax.{w8, w64}
 use mir.Val.{Fits}
 use lib.Bits.{bitXor}
 use lib.ListN.{length}
@@ -34,3 +34,7 @@ module _ (c : Case) (k : Bounded c) where
 
   pub four-byte : {v u t s : ℕ} → v < 2 ^ c .n → u < 2 ^ c .n → t < 2 ^ c .n → s < 2 ^ c .n → Fits w8 (bitXor (bitXor (bitXor v u) t) s)
   four-byte h i j l = three-byte (add c h i) j l
+
+  -- a sum with a number that came through a call, as an index
+  pub came-index : {v t w : ℕ} → w ≡ v → v < 2 ^ c .n → t < 2 ^ c .n → Fits w64 (bitXor w t)
+  came-index e h i = rw e (record { fits = omega (arith, two-byte h i .fits) })

@@ -25,6 +25,18 @@ pub struct Called {
     pub count: u32,
 }
 
+// Hands a value back as it is, through one of two cells of memory that both hold it. The compiler cannot know which, so it does not
+// join what makes the value with what is done to it. It stands between two exclusive ors with masks: joined, they would be one with
+// both masks at once, and the sum of two masks beside another value gives the secret away. No proof sees this; tests/audit does. The
+// index is a mask that no check or caller fixes.
+pub fn value_barrier(value: u8, index: u32) -> u8
+    ensures { λ r. ⌜ r ≡ value ⌝ }
+{
+    let cells: [u8; 2] = [value, value];
+    let at = (index % 2) as usize;
+    cells[at]
+}
+
 // The table's entry for turn a, with the output masks added one after the other. It is for the methods' runs, so it has a `requires`.
 pub fn masked_entry(case: Case, table: &[u8], a: u16) -> u8
     requires { ⌜ Bounded case ⌝ }
@@ -33,5 +45,6 @@ pub fn masked_entry(case: Case, table: &[u8], a: u16) -> u8
     ensures { λ r. ⌜ r ≡ masked case (now (table .entry)) a ⌝ }
 {
     let index = case.x0 as usize ^ a as usize;
-    (table[index] ^ case.s1 as u8) ^ case.s2 as u8
+    let once = value_barrier(table[index] ^ case.s1 as u8, case.r3);
+    once ^ case.s2 as u8
 }

@@ -6,6 +6,7 @@ use native.Mathlib.Numerals.{add-one}
 use native.Mathlib.Omega.{arith}
 use mir.Syntax.{w8}
 use mir.Val.{Fits}
+use lib.Bits.{bitXor}
 use lib.ListN.{length, getD, set, length-set}
 use Rattle.bits.specs.Xor.{_⊕_}
 use Rattle.bits.proofs.Xor.{below}
@@ -16,6 +17,11 @@ use Rattle.lookup.specs.Bounded.{Bounded}
 use Rattle.lookup.specs.Method2.{masked, r-prime, scratch-2, answer-2}
 use Rattle.lookup.proofs.Second.{byte-r3, answer-2-is}
 use Rattle.lookup.proofs.Runs.{one-byte}
+
+-- a turn's place, from the first turn's
+pub from-first : (c : Case) (a first : ℕ) → first ≡ r-prime c → bitXor a first ≡ a ⊕ r-prime c
+unfolding _⊕_
+from-first c a first p = rw p
 
 pub record Filling (c : Case) (table before now : List ℕ) (a : ℕ) : Type 0 where
   pub filled : now ≡ scratch-2 a c table before

@@ -4,13 +4,12 @@ ghost use mathlib.Core.Path.{_≡_};
 ghost use mathlib.Core.List.{map};
 ghost use Prim.Native.Nat.{_+_, _*_, _^_, _≤_, _<_};
 ghost use lib.ListN.{length};
-ghost use Rattle.bits.specs.Xor.{_⊕_};
 ghost use Rattle.log.specs.Written.{written, in-front};
 ghost use Rattle.lookup.specs.Case.{Q};
 ghost use Rattle.lookup.specs.Bounded.{Bounded};
 ghost use Rattle.lookup.specs.Layout.{pass-lines, lines};
 ghost use Rattle.lookup.specs.Log.{value-of, entry, head-2, pass-2, layout-2};
-ghost use Rattle.lookup.specs.Method2.{r-prime, scratch-2, answer-2};
+ghost use Rattle.lookup.specs.Method2.{r-prime as Method2·r-prime, scratch-2, answer-2};
 use lookup::Case;
 
 // A run without a log: the scratch is filled, and the answer is its byte r3.
@@ -33,19 +32,22 @@ fn fill(case: Case, table: &[u8], scratch: &mut [u8])
     ensures { λ _. ⌜ now (scratch .exit) ≡ scratch-2 (Q case) case (now (table .entry)) (now (scratch .entry)) ⌝ }
 {
     let turns = bits::power(case.n) as u16;
+    let first = r_prime(case);
     let mut a: u16 = 0;
     while a < turns {
-        let to = place(case, a);
+        let to = a as usize ^ first;
         scratch[to] = lookup::masked_entry(case, table, a);
         a += 1;
     }
 }
 
-// Where turn a's entry goes: a ⊕ r', with r1 and r3 joined first.
-fn place(case: Case, a: u16) -> usize
-    ensures { λ r. ⌜ r ≡ a ⊕ r-prime case ⌝ }
+// Where turn 0's entry goes; turn a's goes to a ⊕ this. r1 and r3 are joined first.
+fn r_prime(case: Case) -> usize
+    requires { ⌜ Bounded case ⌝ }
+    ensures { λ r. ⌜ r ≡ Method2·r-prime case ⌝ }
 {
-    a as usize ^ ((case.r1 as usize ^ case.r3 as usize) ^ case.r2 as usize)
+    let mixed = lookup::value_barrier((case.r1 ^ case.r3) as u8, case.r3);
+    (mixed ^ case.r2 as u8) as usize
 }
 
 // A run with a log: the same, and every value that it handles stands in the log.
@@ -111,7 +113,7 @@ fn turn(case: Case, table: &[u8], a: u16) -> [u8; 6]
     requires { ⌜ a < 2 ^ case .n ⌝ }
     ensures { λ r. ⌜ r ≡ map value-of (pass-2 case (now (table .entry)) a) ⌝ }
 {
-    let to = place(case, a);
+    let to = a as usize ^ r_prime(case);
     let from = case.x0 as usize ^ a as usize;
     let entry = table[from];
     let first = entry ^ case.s1 as u8;

@@ -65,9 +65,12 @@ fn select(case: Case, table: &[u8], scratch: &[u8], registers: &mut [u8; 2])
 
 // Which scratch byte turn a compares: ((r1 ⊕ a) ⊕ r3) ⊕ r2, in this order.
 fn place(case: Case, a: u16) -> usize
+    requires { ⌜ Bounded case ⌝ }
+    requires { ⌜ a < 2 ^ case .n ⌝ }
     ensures { λ r. ⌜ r ≡ place-3 case a ⌝ }
 {
-    ((case.r1 as usize ^ a as usize) ^ case.r3 as usize) ^ case.r2 as usize
+    let twice = lookup::value_barrier(((case.r1 ^ a as u32) ^ case.r3) as u8, case.r3);
+    (twice ^ case.r2 as u8) as usize
 }
 
 // A run with a log: the same, and every value that it handles stands in the log.

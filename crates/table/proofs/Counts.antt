@@ -1,22 +1,23 @@
 -- What the two loops over a table and over its counts keep. Assumes nothing.
 use mathlib.Core.Path.{_≡_, refl, sym, _∙_}
-use mathlib.Core.Bool.{Bool, true, false, _&&_, _||_, cond, or-assoc, or-false}
+use mathlib.Core.Bool.{Bool, true, false, _||_, cond, or-assoc, or-false}
 use mathlib.Core.List.{List, [], _∷_}
+use mathlib.Core.Logic.{_⊎_, inl, inr}
 use Prim.Native.Nat.{ℕ, suc, _+_, _^_, _≤_, _<_}
-use native.Mathlib.Nat.{add-zero, zero-add, add-assoc, le-trans, le-antisymm}
+use native.Mathlib.Nat.{add-zero, zero-add, add-assoc, le-trans, le-of-suc-le-suc, not-suc-le-zero, eq-or-lt-of-le}
 use native.Mathlib.Numerals.{add-one}
 use native.Mathlib.Omega.{arith}
-use borrow.Author.Tests.{leb-true, leb-false, le-leb, lt-leb, eqb-true, eqb-false, eq-eqb, ne-eqb}
+use borrow.Author.Tests.{leb-true, leb-false, le-leb, lt-leb, eqb-true, eqb-false, eq-eqb}
 use mir.Syntax.{w16}
 use mir.Val.{Fits}
-use lib.Bits.{bitOr, bitXor, or-lt, or-add-and, and-le-l, and-le-r, xor-add-and, xor-self}
+use lib.Bits.{bitOr, or-lt, or-add-and, and-le-l, and-le-r, or-zero-l, or-zero-r, or-self}
 use lib.Dec.{eqb, leb}
 use lib.ListN.{length, getD, set, drop, replicate, length-set, length-replicate, getD-replicate, drop-of-length-le}
 use lib.Pow.{pow-pos}
 use lib.Seq.{drop-cons, getD-set-same, getD-set-other}
 use Rattle.refusals.specs.Tests.{any-from}
-use Rattle.table.specs.Balanced.{at, count-of, all-below}
-use Rattle.table.specs.Counts.{Tally, each-count}
+use Rattle.table.specs.Balanced.{at, count-of}
+use Rattle.table.specs.Counts.{Tally, Joined}
 
 -- the joined bits are no less than either side
 or-above-l : (a b : ℕ) → a ≤ bitOr a b
@@ -99,33 +100,31 @@ ends xs i counts joined h t =
       large = λ m. (rw (drop-of-length-le xs h) at (t .large m)) ∙ or-false _;
     }
 
--- two numbers without a differing bit are equal
-xor-same : (a b : ℕ) → bitXor a b ≡ 0 → a ≡ b
-xor-same a b e = omega (arith, xor-add-and a b, and-le-l a b, and-le-r a b)
+-- after some counts: none of them is more than they are joined, and no number comes up that was not there
+pub record Joining (counts : List ℕ) (joined value : ℕ) : Type 0 where
+  pub above : (v : ℕ) → v < value → at counts v ≤ joined
+  pub only : (times : ℕ) → ((v : ℕ) → v < 256 → (at counts v ≡ 0) ⊎ (at counts v ≡ times)) → (joined ≡ 0) ⊎ (joined ≡ times)
 
-differs : (d a b : ℕ) → eqb (bitOr d (bitXor a b)) 0 ≡ (eqb d 0 && eqb a b)
-differs d a b = go (eqb d 0) (eqb a b) refl refl
-  where
-    go : (s t : Bool) → eqb d 0 ≡ s → eqb a b ≡ t → eqb (bitOr d (bitXor a b)) 0 ≡ (s && t)
-    go false t e f = ne-eqb (bitOr d (bitXor a b)) 0 (λ z. eqb-false d 0 e (omega (arith, or-above-l d (bitXor a b))))
-    go true false e f = ne-eqb (bitOr d (bitXor a b)) 0 (λ z. eqb-false a b f (xor-same a b (omega (arith, or-above-r d (bitXor a b)))))
-    go true true e f = rw (eqb-true d 0 e, eqb-true a b f, xor-self b)
+pub join-begins : (counts : List ℕ) → Joining counts 0 0
+join-begins counts = record { above = λ v h. absurd (not-suc-le-zero h); only = λ times h. inl refl }
 
--- after some counts: no bit differs when each of them is as it should be
-pub record Comparing (counts : List ℕ) (limit times differing value : ℕ) : Type 0 where
-  pub within : value ≤ limit
-  pub same : eqb differing 0 ≡ each-count value times counts
+-- two numbers that are 0 or the same, joined
+or-only : (a b times : ℕ) → (a ≡ 0) ⊎ (a ≡ times) → (b ≡ 0) ⊎ (b ≡ times) → (bitOr a b ≡ 0) ⊎ (bitOr a b ≡ times)
+or-only a b times (inl p) q = rw (p, or-zero-l b) q
+or-only a b times (inr p) (inl q) = rw (p, q, or-zero-r times) (inr refl)
+or-only a b times (inr p) (inr q) = rw (p, q, or-self times) (inr refl)
 
-pub compare-begins : (counts : List ℕ) (limit times : ℕ) → Comparing counts limit times 0 0
-unfolding each-count all-below
-compare-begins counts limit times = record { within = omega arith; same = refl }
+pub join-turns : (counts : List ℕ) (joined value : ℕ) → value < 256 → Joining counts joined value
+    → Joining counts (bitOr joined (getD counts value 0)) (value + 1)
+unfolding at
+join-turns counts joined value h j =
+    rw (add-one value)
+    (record {
+      above = λ v l.
+          elim (eq-or-lt-of-le (le-of-suc-le-suc l))
+          [ inl p ↦ rw p (or-above-r joined (getD counts value 0)) | inr k ↦ le-trans (j .above v k) (or-above-l joined (getD counts value 0)) ];
+      only = λ times f. or-only joined (getD counts value 0) times (j .only times f) (f value h);
+    })
 
-pub compare-turns : (counts : List ℕ) (limit times differing value : ℕ) → value < limit → Comparing counts limit times differing value
-    → Comparing counts limit times (bitOr differing (bitXor (getD counts value 0) times)) (value + 1)
-unfolding each-count all-below at
-compare-turns counts limit times differing value h c =
-    rw add-one (record { within = h; same = differs differing (getD counts value 0) times ∙ rw (c .same) })
-
-pub compare-ends : (counts : List ℕ) (limit times differing value : ℕ) → limit ≤ value → Comparing counts limit times differing value
-    → eqb differing 0 ≡ each-count limit times counts
-compare-ends counts limit times differing value h c = rw (le-antisymm h (c .within)) (c .same)
+pub join-ends : (counts : List ℕ) (joined value : ℕ) → 256 ≤ value → Joining counts joined value → Joined counts joined
+join-ends counts joined value h j = record { above = λ v l. j .above v (le-trans l h); only = j .only }

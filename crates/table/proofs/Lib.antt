@@ -3,4 +3,5 @@ pub mod Balanced
 pub mod Even
 pub mod Refusals
 pub mod Counts
+pub mod Often
 pub mod Told

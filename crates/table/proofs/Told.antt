@@ -1,30 +1,28 @@
 -- What the calls and comparisons of `table_refusal` tell of its widths and of its table. Assumes nothing.
-use mathlib.Core.Path.{_≡_, refl, sym, ap₂, _∙_}
-use mathlib.Core.Bool.{Bool, true, false, _&&_}
+use mathlib.Core.Path.{_≡_, refl, sym, _∙_}
+use mathlib.Core.Bool.{Bool, true, false}
 use mathlib.Core.List.{List}
-use Prim.Native.Nat.{ℕ, zero, suc, _-_, _^_, _≤_, _<_}
+use mathlib.Core.Logic.{_⊎_, inl, inr}
+use Prim.Native.Nat.{ℕ, _-_, _^_, _≤_, _<_}
 use native.Mathlib.Nat.{le-trans}
 use native.Mathlib.Omega.{arith}
-use borrow.Author.Tests.{le-leb, lt-leb, eq-eqb}
-use mir.Syntax.{w16}
-use mir.Val.{Fits}
-use lib.Dec.{eqb}
+use borrow.Author.Tests.{le-leb, lt-leb, leb-true, leb-false}
+use lib.Dec.{leb}
 use lib.ListN.{length}
-use lib.Pow.{pow-mono}
+use lib.Pow.{pow-mono, pow-pos}
 use Rattle.refusals.specs.Tests.{outside, any-from}
 use Rattle.refusals.proofs.Tests.{inside}
-use Rattle.table.specs.Balanced.{at, count-of, all-below, each-often, balanced}
-use Rattle.table.specs.Counts.{Tally, each-count}
+use Rattle.table.specs.Balanced.{at, count-of, balanced}
+use Rattle.table.specs.Counts.{Tally, Joined}
+use Rattle.table.proofs.Balanced.{at-below, balanced-made, balanced-count}
+use Rattle.table.proofs.Often.{each-equal, count-past}
 
 -- an accepted width leaves room for a shift, and its power is small
 pub room : {k : ℕ} → k ≤ 8 → k < 32
 room h = omega arith
 
-pub few : (k size : ℕ) → size ≡ 2 ^ k → k ≤ 8 → size ≤ 256
+few : (k size : ℕ) → size ≡ 2 ^ k → k ≤ 8 → size ≤ 256
 few k size e h = rw e (pow-mono h)
-
-pub fits : (k size : ℕ) → size ≡ 2 ^ k → k ≤ 8 → Fits w16 size
-fits k size e h = record { fits = omega (arith, few k size e h) }
 
 pub table-few : (k size : ℕ) (xs : List ℕ) → size ≡ 2 ^ k → length xs ≡ size → k ≤ 8 → length xs ≤ 256
 table-few k size xs e l h = rw l (few k size e h)
@@ -56,13 +54,31 @@ module _ {xs counts : List ℕ} {joined : ℕ} (t : Tally xs counts joined) wher
   pub none-large : (limit m : ℕ) → limit ≡ 2 ^ m → joined < limit → any-from (2 ^ m) xs ≡ false
   none-large limit m e h = t .large m ∙ lt-leb _ _ (rw e at h)
 
-  -- the counts against the number that they should be
-  each : (k times : ℕ) → k ≤ 256 → all-below k (λ v. eqb (at counts v) times) ≡ all-below k (λ v. eqb (count-of v xs) times)
-  unfolding all-below
-  each zero times h = refl
-  each (suc k) times h = ap₂ _&&_ (each k times (omega arith)) (rw (t .counted k h))
+  -- the joined counts against the number that each should be
+  module _ {often : ℕ} (j : Joined counts often) (n m times : ℕ) (each : times ≡ 2 ^ (n - m)) (narrow : m ≤ 8) (long : length xs ≡ 2 ^ n)
+      (none : any-from (2 ^ m) xs ≡ false) where
+    pub balance : m ≤ n → often ≡ times → balanced n m xs ≡ true
+    balance h e =
+        let below : (v : ℕ) → v < 2 ^ m → v < 256 = λ v l. le-trans l (pow-mono narrow) in
+        balanced-made n m xs long (at-below (2 ^ m) xs (pow-pos m) none)
+        (each-equal n m xs h long none (λ v l. rw (← t .counted v (below v l)) (rw (e, each) at (j .above v (below v l)))))
 
-  pub balance : (n m limit times : ℕ) (r b : Bool) → r ≡ each-count limit times counts → r ≡ b → limit ≡ 2 ^ m → limit ≤ 256 → times ≡ 2 ^ (n - m)
-      → length xs ≡ 2 ^ n → any-from (2 ^ m) xs ≡ false → balanced n m xs ≡ b
-  unfolding balanced each-often each-count
-  balance n m limit times r b s z l h k e f = rw (eq-eqb _ _ e, f, ← l, ← k) (sym (each limit times h) ∙ sym s ∙ z)
+    -- a balanced table's counts are 0 or this number, so they are joined to it
+    counts-two : balanced n m xs ≡ true → (v : ℕ) → v < 256 → (at counts v ≡ 0) ⊎ (at counts v ≡ times)
+    counts-two b v l = go (leb (2 ^ m) v) refl
+      where
+        go : (s : Bool) → leb (2 ^ m) v ≡ s → (at counts v ≡ 0) ⊎ (at counts v ≡ times)
+        go true e = inl (t .counted v l ∙ count-past (2 ^ m) xs none v (leb-true _ _ e))
+        go false e = inr (t .counted v l ∙ balanced-count n m xs b v (leb-false _ _ e) ∙ sym each)
+
+    joined-two : balanced n m xs ≡ true → (often ≡ 0) ⊎ (often ≡ times) → often ≡ times
+    joined-two b (inr e) = e
+    joined-two b (inl e) =
+        omega (arith, j .above 0 (omega arith), t .counted 0 (omega arith), balanced-count n m xs b 0 (pow-pos m), pow-pos (n - m))
+
+    pub no-balance : (often ≡ times → ⊥) → balanced n m xs ≡ false
+    no-balance h = go (balanced n m xs) refl
+      where
+        go : (b : Bool) → balanced n m xs ≡ b → b ≡ false
+        go false e = refl
+        go true e = absurd (h (joined-two e (j .only times (counts-two e))))

@@ -1,12 +1,13 @@
--- What one pass over a table finds: the counts of its values, and its entries joined by bitwise or. Assumes nothing: these are definitions.
+-- What one pass over a table finds: the counts of its values, and its entries joined by bitwise or; and the counts joined likewise.
+-- Assumes nothing: these are definitions.
 use mathlib.Core.Path.{_≡_}
-use mathlib.Core.Bool.{Bool}
 use mathlib.Core.List.{List}
-use Prim.Native.Nat.{ℕ, _^_, _<_}
-use lib.Dec.{eqb, leb}
+use mathlib.Core.Logic.{_⊎_}
+use Prim.Native.Nat.{ℕ, _^_, _≤_, _<_}
+use lib.Dec.{leb}
 use lib.ListN.{length}
 use Rattle.refusals.specs.Tests.{any-from}
-use Rattle.table.specs.Balanced.{at, count-of, all-below}
+use Rattle.table.specs.Balanced.{at, count-of}
 
 -- the count of each byte value, and a number that is 2^m or more when some entry is
 pub record Tally (table counts : List ℕ) (joined : ℕ) : Type 0 where
@@ -14,6 +15,7 @@ pub record Tally (table counts : List ℕ) (joined : ℕ) : Type 0 where
   pub counted : (v : ℕ) → v < 256 → at counts v ≡ count-of v table
   pub large : (m : ℕ) → any-from (2 ^ m) table ≡ leb (2 ^ m) joined
 
--- each count below the limit is this
-unfoldable pub each-count : (limit times : ℕ) → (counts : List ℕ) → Bool
-each-count limit times counts = all-below limit (λ v. eqb (at counts v) times)
+-- the counts joined by bitwise or: no less than any of them; and where each of them is 0 or the same number, one of these two
+pub record Joined (counts : List ℕ) (joined : ℕ) : Type 0 where
+  pub above : (v : ℕ) → v < 256 → at counts v ≤ joined
+  pub only : (times : ℕ) → ((v : ℕ) → v < 256 → (at counts v ≡ 0) ⊎ (at counts v ≡ times)) → (joined ≡ 0) ⊎ (joined ≡ times)

@@ -3,7 +3,7 @@ ghost use mathlib.Core.Path.{_≡_};
 ghost use Prim.Native.Nat.{_≤_};
 ghost use lib.ListN.{length, replicate};
 ghost use Rattle.table.specs.Refusals.{table-refusal};
-ghost use Rattle.table.specs.Counts.{Tally, each-count};
+ghost use Rattle.table.specs.Counts.{Tally, Joined};
 
 // The number of the first check that refuses the table or its widths, or 0.
 pub fn table_refusal(input_width: u32, output_width: u32, table: &[u8]) -> u32
@@ -25,7 +25,8 @@ pub fn table_refusal(input_width: u32, output_width: u32, table: &[u8]) -> u32
         return 6;
     }
     let times = bits::power(input_width - output_width);
-    if !each_often(&counts, limit as usize, times as u16) {
+    let often = joined_counts(&counts);
+    if often as u32 != times {
         return 7;
     }
     0
@@ -48,16 +49,16 @@ fn tally(table: &[u8], counts: &mut [u16; 256]) -> u8
     joined
 }
 
-// Whether each value below the limit was counted this often. The caller's limit is a power of two up to 256, so it has a `requires`.
-fn each_often(counts: &[u16; 256], limit: usize, times: u16) -> bool
-    requires { ⌜ limit ≤ 256 ⌝ }
-    ensures { λ r. ⌜ r ≡ each-count limit times (now (counts .entry)) ⌝ }
+// All counts joined by bitwise or. In a balanced table each count is 0 or one power of two, so this is that power; in any other
+// table some count is too large and shows here. All 256 are joined at every width, so that every width runs the same code.
+fn joined_counts(counts: &[u16; 256]) -> u16
+    ensures { λ r. ⌜ Joined (now (counts .entry)) r ⌝ }
 {
-    let mut differing = 0;
+    let mut joined = 0;
     let mut value = 0;
-    while value < limit {
-        differing |= counts[value] ^ times;
+    while value < 256 {
+        joined |= counts[value];
         value += 1;
     }
-    differing == 0
+    joined
 }

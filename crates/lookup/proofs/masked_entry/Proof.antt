@@ -10,7 +10,9 @@ use Rattle.lookup.proofs.masked_entry.Tie as tie
 
 returns : tie.Need-returns
 unfolding masked at _⊕_
-returns c = refl
+returns c = rw (c .before .value-barrier .ensures)
 
 pub masked-entry-spec : {M : Type 1} → statement M
-masked-entry-spec = tie.close (tie.spec (λ c. search needs) (λ c. search in-table) (λ c. search needs) (λ c. search needs) returns)
+masked-entry-spec =
+    tie.close
+    (tie.spec (λ c. search needs) (λ c. search in-table) (λ c. search needs) (λ c κs. search needs) (λ c. search needs) returns)

@@ -1,18 +1,18 @@
 -- `method2::fill` meets its contract. The invariant is `Filling`. Assumes nothing.
 use borrow.Author.Needs.{needs}
 use Prim.Native.Nat.{_-_}
-use Rattle.method2.proofs.Filling.{Filling, begins, turns, ends, in-scratch}
+use Rattle.method2.proofs.Filling.{from-first, Filling, begins, turns, ends, in-scratch}
 use Rattle.method2.proofs.fill.Statement.{statement}
 use Rattle.method2.proofs.fill.Tie as tie
 
 abbrev Inv : tie.InvT-loop
-Inv case table scratch₀ turns a₀ scratch a = Filling case table scratch₀ scratch a
+Inv case table scratch₀ turns first a₀ scratch a = Filling case table scratch₀ scratch a
 
 abbrev μ : tie.MeasureT-loop
-μ case table scratch₀ turns a₀ scratch a = turns - a
+μ case table scratch₀ turns first a₀ scratch a = turns - a
 
 pub fill-spec : {M : Type 1} → statement M
 fill-spec =
     tie.close
-    (tie.spec Inv μ (λ c κs. search needs) (λ c. search needs) (λ c. search begins) (λ c κs. search needs) (λ c κs. search needs) (λ c. search in-scratch)
-    (λ c. search needs) (λ c. search needs) (λ c. search turns) (λ c. search needs) (λ c. search ends))
+    (tie.spec Inv μ (λ c κs. search needs) (λ c. search needs) (λ c κs. search needs) (λ c. search begins) (λ c. search needs) (λ c κs. search needs)
+    (λ c. search (in-scratch, from-first)) (λ c. search needs) (λ c. search needs) (λ c. search (turns, from-first)) (λ c. search needs) (λ c. search ends))

@@ -1,0 +1,36 @@
+// Probes: what stands in one place after one step, over all calls of a trace.
+#ifndef PROBES_H
+#define PROBES_H
+
+#include "step.h"
+
+struct probe {
+    uint32_t step, place;
+    uint64_t *values; // one for each call
+};
+
+struct probes {
+    struct probe *list;
+    size_t count, calls;
+    const uintptr_t *addresses;
+};
+
+// Every place that some call of the trace changes at a step, with its value after that step in every call. `starts` has the
+// number of each call's first change. Probes that are the same in all calls are left out: nothing depends on them.
+// Where it depends on the masks which byte of memory a step writes, the probe is the register that it writes, which is there already:
+// what lies untouched elsewhere is not seen at that step. `clear` is false if no register explains what such a step writes.
+struct probes probes_of(const struct trace *trace, const size_t *starts, size_t calls, bool *clear);
+void drop_probes(struct probes *probes);
+
+void print_probe(const struct probes *probes, const struct probe *probe);
+
+// The exact comparison. The calls come input by input, equally many for each input, all choices of masks. Two probes leak if for
+// some two values another number of choices shows them for one input than for another. Prints the first few that leak, and
+// returns how many pairs do; probes that tell calls apart in the same way count once.
+size_t leaking_pairs(const struct probes *probes, size_t inputs);
+
+// The linear comparison, for choices drawn at random: a probe, or the exclusive or of two, leaks if it is the same for all
+// choices of each input and differs between two inputs.
+size_t leaking_sums(const struct probes *probes, size_t inputs);
+
+#endif
