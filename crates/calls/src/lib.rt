@@ -141,9 +141,9 @@ fn run_logged(case: Case, table: &[u8], scratch: &mut [u8], log: &mut [u16]) -> 
     ensures { λ _. ⌜ now (log .exit) ≡ in-front (Log.log case (now (table .entry))) (now (log .entry)) ⌝ }
 {
     if case.method == 2 {
-        method2::run_logged(case, table, scratch, log)
+        method2::logged::run(case, table, scratch, log)
     } else {
-        method3::run_logged(case, table, scratch, log)
+        method3::logged::run(case, table, scratch, log)
     }
 }
 

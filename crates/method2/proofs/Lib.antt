@@ -1,3 +1,3 @@
 -- What the loops of method 2 keep.
 pub mod Filling
-pub mod Logged
+pub mod Turned

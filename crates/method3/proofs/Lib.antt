@@ -2,4 +2,4 @@
 pub mod Preparing
 pub mod Comparing
 pub mod Selecting
-pub mod Logged
+pub mod Turned

@@ -1,16 +1,16 @@
 // Method 3: the scratch says, masked by the bit b, which turn's entry is kept, and the answer is read from register b.
 // The calls have checked the case and measured the buffers, so the functions here have a `requires`.
 ghost use mathlib.Core.Path.{_≡_};
-ghost use mathlib.Core.List.{[], _∷_, map};
-ghost use Prim.Native.Nat.{_+_, _*_, _^_, _≤_, _<_};
+ghost use mathlib.Core.List.{[], _∷_};
+ghost use Prim.Native.Nat.{_+_, _^_, _≤_, _<_};
 ghost use lib.ListN.{length, take};
-ghost use Rattle.log.specs.Written.{written, in-front};
 ghost use Rattle.lookup.specs.Case.{Q};
 ghost use Rattle.lookup.specs.Bounded.{Bounded};
-ghost use Rattle.lookup.specs.Layout.{pass-lines, lines};
-ghost use Rattle.lookup.specs.Log.{value-of, entry, head-3, pass-3, layout-3};
+ghost use Rattle.lookup.specs.Log.{entry};
 ghost use Rattle.lookup.specs.Method3.{comparison-table, scratch-3, place-3, registers-3, answer-3};
 use lookup::Case;
+
+pub mod logged;
 
 // A run without a log: the scratch is prepared, each turn's entry goes to a register, and the answer is register b.
 pub fn run(case: Case, table: &[u8], scratch: &mut [u8]) -> u8
@@ -71,90 +71,4 @@ fn place(case: Case, a: u16) -> usize
 {
     let twice = lookup::value_barrier(((case.r1 ^ a as u32) ^ case.r3) as u8, case.r3);
     (twice ^ case.r2 as u8) as usize
-}
-
-// A run with a log: the same, and every value that it handles stands in the log.
-pub fn run_logged(case: Case, table: &[u8], scratch: &mut [u8], log: &mut [u16]) -> u8
-    requires { ⌜ Bounded case ⌝ }
-    requires { ⌜ length (now table) ≡ 2 ^ case .n ⌝ }
-    requires { ⌜ 2 ^ case .n ≤ length (now scratch) ⌝ }
-    requires { ⌜ 10 + 9 * 2 ^ case .n ≤ length (now log) ⌝ }
-    ensures { λ r. ⌜ r ≡ answer-3 case (now (table .entry)) ⌝ }
-    ensures { λ r. ⌜ now (scratch .exit) ≡ scratch-3 case (now (scratch .entry)) ⌝ }
-    ensures { λ r. ⌜ now (log .exit) ≡ in-front (map entry (lines (Q case) (layout-3 case (now (table .entry))))) (now (log .entry)) ⌝ }
-{
-    let b = case.b as usize;
-    let turns = bits::power(case.n) as u16;
-    let mut registers: [u8; 2] = [0, 0];
-    log::put_head_3(log, head(case));
-    prepare(case, scratch);
-    select_logged(case, table, scratch, &mut registers, log);
-    let answer = registers[b];
-    log::put_end_3(log, turns, [case.b as u8, answer]);
-    answer
-}
-
-fn select_logged(case: Case, table: &[u8], scratch: &[u8], registers: &mut [u8; 2], log: &mut [u16])
-    requires { ⌜ Bounded case ⌝ }
-    requires { ⌜ length (now table) ≡ 2 ^ case .n ⌝ }
-    requires { ⌜ take (Q case) (now scratch) ≡ comparison-table case ⌝ }
-    requires { ⌜ now registers ≡ 0 ∷ 0 ∷ [] ⌝ }
-    requires { ⌜ 10 + 9 * 2 ^ case .n ≤ length (now log) ⌝ }
-    ensures { λ _. ⌜ now (registers .exit) ≡ registers-3 (Q case) case (now (table .entry)) ⌝ }
-    ensures { λ _. ⌜ now (log .exit) ≡ written (now (log .entry)) 8 (map entry (pass-lines (Q case) (pass-3 case (now (table .entry))))) ⌝ }
-{
-    let turns = bits::power(case.n) as u16;
-    let mut a: u16 = 0;
-    while a < turns {
-        let values = turn(case, table, scratch, a);
-        let cmp = values[4] as usize;
-        registers[cmp] = values[8];
-        log::put_turn_3(log, a, values);
-        a += 1;
-    }
-}
-
-// The head's values, in the order of the log.
-fn head(case: Case) -> [u8; 8]
-    requires { ⌜ Bounded case ⌝ }
-    ensures { λ r. ⌜ r ≡ map value-of (head-3 case) ⌝ }
-{
-    [
-        case.x0 as u8,
-        case.r1 as u8,
-        case.r2 as u8,
-        case.s1 as u8,
-        case.s2 as u8,
-        case.b as u8,
-        case.r3 as u8,
-        1 - case.b as u8,
-    ]
-}
-
-// Turn a's values, in the order of the log.
-fn turn(case: Case, table: &[u8], scratch: &[u8], a: u16) -> [u8; 9]
-    requires { ⌜ Bounded case ⌝ }
-    requires { ⌜ length (now table) ≡ 2 ^ case .n ⌝ }
-    requires { ⌜ take (Q case) (now scratch) ≡ comparison-table case ⌝ }
-    requires { ⌜ a < 2 ^ case .n ⌝ }
-    ensures { λ r. ⌜ r ≡ map value-of (pass-3 case (now (table .entry)) a) ⌝ }
-{
-    let once = case.r1 as usize ^ a as usize;
-    let twice = once ^ case.r3 as usize;
-    let at = twice ^ case.r2 as usize;
-    let cmp = scratch[at];
-    let from = case.x0 as usize ^ a as usize;
-    let entry = table[from];
-    let first = entry ^ case.s1 as u8;
-    [
-        a as u8,
-        once as u8,
-        twice as u8,
-        at as u8,
-        cmp,
-        from as u8,
-        entry,
-        first,
-        first ^ case.s2 as u8,
-    ]
 }

@@ -1,4 +1,4 @@
--- `method2::turn` meets its contract. Assumes nothing.
+-- `method2::logged::turn` meets its contract. Assumes nothing.
 use borrow.Author.Needs.{needs}
 use Rattle.bits.specs.Xor.{_⊕_}
 use Rattle.table.specs.Balanced.{at}
@@ -6,8 +6,8 @@ use Rattle.lookup.specs.Method2.{masked}
 use Rattle.lookup.specs.Log.{pass-2}
 use Rattle.lookup.proofs.Runs.{in-table, two-byte}
 use Rattle.method2.proofs.Filling.{from-first, place-byte}
-use Rattle.method2.proofs.turn.Statement.{statement}
-use Rattle.method2.proofs.turn.Tie as tie
+use Rattle.method2.proofs.logged.turn.Statement.{statement}
+use Rattle.method2.proofs.logged.turn.Tie as tie
 
 returns : tie.Need-returns
 unfolding pass-2 masked at _⊕_

@@ -1,9 +1,9 @@
--- `method2::fill_logged` meets its contract. The invariant is `Turned`. Assumes nothing.
+-- `method2::logged::fill` meets its contract. The invariant is `Turned`. Assumes nothing.
 use borrow.Author.Needs.{needs}
 use Prim.Native.Nat.{_-_}
-use Rattle.method2.proofs.Logged.{Turned, begins, turns, ends-scratch, ends-log, in-scratch, in-log}
-use Rattle.method2.proofs.fill_logged.Statement.{statement}
-use Rattle.method2.proofs.fill_logged.Tie as tie
+use Rattle.method2.proofs.Turned.{Turned, begins, turns, ends-scratch, ends-log, in-scratch, in-log}
+use Rattle.method2.proofs.logged.fill.Statement.{statement}
+use Rattle.method2.proofs.logged.fill.Tie as tie
 
 abbrev Inv : tie.InvT-loop
 Inv case table scratch₀ log₀ turns a₀ scratch log a = Turned case table scratch₀ scratch log₀ log a
@@ -11,8 +11,8 @@ Inv case table scratch₀ log₀ turns a₀ scratch log a = Turned case table sc
 abbrev μ : tie.MeasureT-loop
 μ case table scratch₀ log₀ turns a₀ scratch log a = turns - a
 
-pub fill-logged-spec : {M : Type 1} → statement M
-fill-logged-spec =
+pub fill-spec : {M : Type 1} → statement M
+fill-spec =
     tie.close
     (tie.spec Inv μ (λ c κs. search needs) (λ c. search needs) (λ c. search begins) (λ c κs. search needs) (λ c. search needs) (λ c. search needs)
     (λ c. search needs) (λ c. search in-scratch) (λ c κs. search in-log) (λ c. search needs) (λ c. search needs) (λ c. search turns)

@@ -1,4 +1,4 @@
--- `method3::turn` meets its contract. Assumes nothing.
+-- `method3::logged::turn` meets its contract. Assumes nothing.
 use borrow.Author.Needs.{needs}
 use denote.Ref.{now}
 use Rattle.bits.specs.Xor.{_⊕_}
@@ -8,8 +8,8 @@ use Rattle.lookup.specs.Method3.{place-3}
 use Rattle.lookup.specs.Log.{pass-3}
 use Rattle.lookup.proofs.Runs.{in-table, two-byte, three-byte, four-byte}
 use Rattle.method3.proofs.Comparing.{in-scratch, byte-is}
-use Rattle.method3.proofs.turn.Statement.{statement}
-use Rattle.method3.proofs.turn.Tie as tie
+use Rattle.method3.proofs.logged.turn.Statement.{statement}
+use Rattle.method3.proofs.logged.turn.Tie as tie
 
 read : tie.Need-shared-slice-read-cmp
 unfolding place-3 _⊕_

@@ -1,9 +1,9 @@
--- `method3::head` meets its contract. Assumes nothing.
+-- `method3::logged::head` meets its contract. Assumes nothing.
 use mathlib.Core.Path.{refl}
 use borrow.Author.Needs.{needs}
 use Rattle.lookup.specs.Log.{head-3}
-use Rattle.method3.proofs.head.Statement.{statement}
-use Rattle.method3.proofs.head.Tie as tie
+use Rattle.method3.proofs.logged.head.Statement.{statement}
+use Rattle.method3.proofs.logged.head.Tie as tie
 
 returns : tie.Need-returns
 unfolding head-3

@@ -1,9 +1,9 @@
--- `method3::select_logged` meets its contract. The invariant is `Turned`. Assumes nothing.
+-- `method3::logged::select` meets its contract. The invariant is `Turned`. Assumes nothing.
 use borrow.Author.Needs.{needs}
 use Prim.Native.Nat.{_-_}
-use Rattle.method3.proofs.Logged.{Turned, begins, turns, ends-registers, ends-log, in-registers, in-log}
-use Rattle.method3.proofs.select_logged.Statement.{statement}
-use Rattle.method3.proofs.select_logged.Tie as tie
+use Rattle.method3.proofs.Turned.{Turned, begins, turns, ends-registers, ends-log, in-registers, in-log}
+use Rattle.method3.proofs.logged.select.Statement.{statement}
+use Rattle.method3.proofs.logged.select.Tie as tie
 
 abbrev Inv : tie.InvT-loop
 Inv case table scratch registers₀ log₀ turns a₀ registers log a = Turned case table registers log₀ log a
@@ -11,8 +11,8 @@ Inv case table scratch registers₀ log₀ turns a₀ registers log a = Turned c
 abbrev μ : tie.MeasureT-loop
 μ case table scratch registers₀ log₀ turns a₀ registers log a = turns - a
 
-pub select-logged-spec : {M : Type 1} → statement M
-select-logged-spec =
+pub select-spec : {M : Type 1} → statement M
+select-spec =
     tie.close
     (tie.spec Inv μ (λ c κs. search needs) (λ c. search needs) (λ c. search begins)
     (λ c κs. (search needs, (search needs, (search needs, search needs)))) (λ c. search needs) (λ c. search needs) (λ c. search needs) (λ c. search in-registers)

@@ -1,0 +1,97 @@
+// The run of method 3 with a log: the same lookup, and every value that it handles stands in the log.
+ghost use mathlib.Core.Path.{_≡_};
+ghost use mathlib.Core.List.{[], _∷_, map};
+ghost use Prim.Native.Nat.{_+_, _*_, _^_, _≤_, _<_};
+ghost use lib.ListN.{length, take};
+ghost use Rattle.log.specs.Written.{written, in-front};
+ghost use Rattle.lookup.specs.Case.{Q};
+ghost use Rattle.lookup.specs.Bounded.{Bounded};
+ghost use Rattle.lookup.specs.Layout.{pass-lines, lines};
+ghost use Rattle.lookup.specs.Log.{value-of, entry, head-3, pass-3, layout-3};
+ghost use Rattle.lookup.specs.Method3.{comparison-table, scratch-3, registers-3, answer-3};
+use lookup::Case;
+
+pub fn run(case: Case, table: &[u8], scratch: &mut [u8], log: &mut [u16]) -> u8
+    requires { ⌜ Bounded case ⌝ }
+    requires { ⌜ length (now table) ≡ 2 ^ case .n ⌝ }
+    requires { ⌜ 2 ^ case .n ≤ length (now scratch) ⌝ }
+    requires { ⌜ 10 + 9 * 2 ^ case .n ≤ length (now log) ⌝ }
+    ensures { λ r. ⌜ r ≡ answer-3 case (now (table .entry)) ⌝ }
+    ensures { λ r. ⌜ now (scratch .exit) ≡ scratch-3 case (now (scratch .entry)) ⌝ }
+    ensures { λ r. ⌜ now (log .exit) ≡ in-front (map entry (lines (Q case) (layout-3 case (now (table .entry))))) (now (log .entry)) ⌝ }
+{
+    let b = case.b as usize;
+    let turns = bits::power(case.n) as u16;
+    let mut registers: [u8; 2] = [0, 0];
+    log::put_head_3(log, head(case));
+    crate::prepare(case, scratch);
+    select(case, table, scratch, &mut registers, log);
+    let answer = registers[b];
+    log::put_end_3(log, turns, [case.b as u8, answer]);
+    answer
+}
+
+fn select(case: Case, table: &[u8], scratch: &[u8], registers: &mut [u8; 2], log: &mut [u16])
+    requires { ⌜ Bounded case ⌝ }
+    requires { ⌜ length (now table) ≡ 2 ^ case .n ⌝ }
+    requires { ⌜ take (Q case) (now scratch) ≡ comparison-table case ⌝ }
+    requires { ⌜ now registers ≡ 0 ∷ 0 ∷ [] ⌝ }
+    requires { ⌜ 10 + 9 * 2 ^ case .n ≤ length (now log) ⌝ }
+    ensures { λ _. ⌜ now (registers .exit) ≡ registers-3 (Q case) case (now (table .entry)) ⌝ }
+    ensures { λ _. ⌜ now (log .exit) ≡ written (now (log .entry)) 8 (map entry (pass-lines (Q case) (pass-3 case (now (table .entry))))) ⌝ }
+{
+    let turns = bits::power(case.n) as u16;
+    let mut a: u16 = 0;
+    while a < turns {
+        let values = turn(case, table, scratch, a);
+        let cmp = values[4] as usize;
+        registers[cmp] = values[8];
+        log::put_turn_3(log, a, values);
+        a += 1;
+    }
+}
+
+// The head's values, in the order of the log.
+fn head(case: Case) -> [u8; 8]
+    requires { ⌜ Bounded case ⌝ }
+    ensures { λ r. ⌜ r ≡ map value-of (head-3 case) ⌝ }
+{
+    [
+        case.x0 as u8,
+        case.r1 as u8,
+        case.r2 as u8,
+        case.s1 as u8,
+        case.s2 as u8,
+        case.b as u8,
+        case.r3 as u8,
+        1 - case.b as u8,
+    ]
+}
+
+// Turn a's values, in the order of the log.
+fn turn(case: Case, table: &[u8], scratch: &[u8], a: u16) -> [u8; 9]
+    requires { ⌜ Bounded case ⌝ }
+    requires { ⌜ length (now table) ≡ 2 ^ case .n ⌝ }
+    requires { ⌜ take (Q case) (now scratch) ≡ comparison-table case ⌝ }
+    requires { ⌜ a < 2 ^ case .n ⌝ }
+    ensures { λ r. ⌜ r ≡ map value-of (pass-3 case (now (table .entry)) a) ⌝ }
+{
+    let once = case.r1 as usize ^ a as usize;
+    let twice = once ^ case.r3 as usize;
+    let at = twice ^ case.r2 as usize;
+    let cmp = scratch[at];
+    let from = case.x0 as usize ^ a as usize;
+    let entry = table[from];
+    let first = entry ^ case.s1 as u8;
+    [
+        a as u8,
+        once as u8,
+        twice as u8,
+        at as u8,
+        cmp,
+        from as u8,
+        entry,
+        first,
+        first ^ case.s2 as u8,
+    ]
+}
