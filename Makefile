@@ -1,5 +1,5 @@
 # `make` proves everything and builds what a user links or runs; `make test` is the gate.
-.PHONY: all lib bench demo sbox speed test
+.PHONY: all lib bench demo sbox audit speed test
 
 # the case sheet that `make bench` prints
 SHEET = examples/p1.sheet
@@ -28,6 +28,11 @@ sbox:
 	@mkdir -p target
 	@rt check sbox_print > target/sbox.log 2>&1 || { cat target/sbox.log; exit 1; }
 	@target/bin/sbox_print
+
+# what the machine code does with the masks, an instruction at a time: half a minute to two minutes; x86-64 Linux only
+audit: lib
+	@rt staticlib logged_export > target/logged.log 2>&1 || { cat target/logged.log; exit 1; }
+	@tests/audit/run && cat target/audit/plain_2.log target/audit/plain_3.log
 
 # the tables of docs/PERFORMANCE.md; needs valgrind
 speed:

@@ -50,10 +50,11 @@ enum cippazhey_refusal {
 //   - Every call returns, and reads and writes only the bytes it is lent.
 //   - The result and every byte of scratch are as the scope document lays them out. A refused call writes nothing.
 //   - Any two of the values that the method's log lists tell nothing of the secret, for every balanced table and all widths.
-// What is not:
+// What is not proved:
 //   - How long a call takes.
-//   - What the compiled code holds in registers and memory besides those values.
-//   - Three values taken together, and masks that are not uniform or are used twice.
+//   - What the compiled code holds in registers and memory. That was audited, for the x86-64 archive and its compiler only.
+//   - A caller that passes a constant for a mask lets its compiler undo the masking: neither proved nor audited.
+//   - Three values taken together tell the secret, and so may masks that are not uniform or are used twice.
 //
 // Returned is refusal * 256 + share, the share 0 on refusal.
 uint16_t cippazhey_plain_call(uint32_t method, uint32_t n, uint32_t m, uint32_t x0, uint32_t r1, uint32_t r2, uint32_t s1,
