@@ -1,8 +1,3 @@
--- The laws of case sheets and of their print.
-pub mod Items
-pub mod Leading
-pub mod Sheets
-pub mod Lines
-pub mod Entries
+-- The laws of the print.
 pub mod Replies
 pub mod Prints

@@ -1,5 +1,6 @@
--- What the logged call told, and the print that answers it. Assumes nothing.
+-- What the logged call told, and the print that answers it; 1 where the sheet is malformed. Assumes nothing.
 use mathlib.Core.Path.{_≡_, refl, sym, ap, _∙_}
+use mathlib.Core.Bool.{Bool, true, false, cond}
 use mathlib.Core.Logic.{⊎-elim}
 use mathlib.Core.List.{List, [], _∷_}
 use Prim.Native.Nat.{ℕ, zero, suc, _+_, _*_, _^_, _≤_}
@@ -19,7 +20,8 @@ use Rattle.lookup.proofs.ByMethod.{by-2, by-3}
 use Rattle.lookup.proofs.Promises.{log-long}
 use Rattle.calls.specs.Reply.{called, left, logged-reply, logged-log}
 use Rattle.call_checks.proofs.Checking.{at-case, at-room, at-plain, at-end}
-use Rattle.sheet.specs.Print.{line-of, answer-lines, reply}
+use Rattle.log_print.specs.Lines.{line-of, answer-lines}
+use Rattle.sheet.specs.Print.{reply}
 
 called-number : (refusal share count : ℕ) → called refusal share count .refusal ≡ refusal
 unfolding called
@@ -36,7 +38,7 @@ module _ (c : Case) (table : List ℕ) where
       ⊎-elim (λ h. omega (arith, by-2 (10 + 6 * 2 ^ c .n) (10 + 9 * 2 ^ c .n) 0 (h .0), size)) (λ h. omega (arith, by-3 (10 + 6 * 2 ^ c .n) (10 + 9 * 2 ^ c .n) 0 (h .0), size))
       (k .chosen)
 
-  module _ (scratch lent : List ℕ) (room : 256 ≤ length scratch) (log-room : 2314 ≤ length lent) where
+  module _ (scratch lent : List ℕ) (x : Called) (told : x ≡ logged-reply c table scratch lent) (room : length scratch ≡ 256) (log-room : length lent ≡ 2400) where
     -- scratch and log are long enough, so only the case is refused
     same-refusal : logged-refusal c table scratch lent ≡ case-refusal c table
     same-refusal = go (case-refusal c table) refl
@@ -47,26 +49,38 @@ module _ (c : Case) (table : List ℕ) where
             sym (at-end c table scratch lent 0 _ (at-room c table scratch 0 (2 ^ c .n) e refl refl (omega arith)) refl refl (omega (arith, log-most (sym e)))) ∙ e
         go (suc k) e = sym (at-plain c table scratch lent (suc k) (at-case c table scratch (suc k) e (λ z. omega arith)) (λ z. omega arith)) ∙ e
 
-    module _ (x : Called) (told : x ≡ logged-reply c table scratch lent) where
-      number : x .refusal ≡ case-refusal c table
-      unfolding logged-reply
-      number = ap (λ y. y .refusal) told ∙ called-number (logged-refusal c table scratch lent) _ _ ∙ same-refusal
+    number : x .refusal ≡ case-refusal c table
+    unfolding logged-reply
+    number = ap (λ y. y .refusal) told ∙ called-number (logged-refusal c table scratch lent) _ _ ∙ same-refusal
 
+    module _ (malformed : Bool) (refusal : ℕ) (first : refusal ≡ cond malformed 1 (x .refusal)) where
       -- refused
-      refused : (x .refusal ≡ 0 → ⊥) → line-of (x .refusal ∷ []) ≡ reply c table
+      refused : (refusal ≡ 0 → ⊥) → line-of (refusal ∷ []) ≡ cond malformed (line-of (1 ∷ [])) (reply c table)
       unfolding reply
-      refused h = rw (number, ne-eqb (case-refusal c table) 0 (λ z. h (number ∙ z)))
+      refused h = go malformed first
+        where
+          go : (t : Bool) → refusal ≡ cond t 1 (x .refusal) → line-of (refusal ∷ []) ≡ cond t (line-of (1 ∷ [])) (reply c table)
+          go true e = rw e
+          go false e = rw (e, number, ne-eqb (case-refusal c table) 0 (λ z. h (e ∙ number ∙ z)))
 
-      pub refused-long : {k : ℕ} → (x .refusal ≡ 0 → ⊥) → k ≡ length (line-of (x .refusal ∷ [])) → k ≡ length (reply c table)
+      pub refused-long : {k : ℕ} → (refusal ≡ 0 → ⊥) → k ≡ length (line-of (refusal ∷ [])) → k ≡ length (cond malformed (line-of (1 ∷ [])) (reply c table))
       refused-long h e = e ∙ ap length (refused h)
 
-      pub refused-left : (before now : List ℕ) → (x .refusal ≡ 0 → ⊥) → now ≡ in-front (line-of (x .refusal ∷ [])) before → now ≡ in-front (reply c table) before
+      pub refused-left : (before now : List ℕ) → (refusal ≡ 0 → ⊥) → now ≡ in-front (line-of (refusal ∷ [])) before
+          → now ≡ in-front (cond malformed (line-of (1 ∷ [])) (reply c table)) before
       refused-left before now h e = e ∙ ap (λ l. in-front l before) (refused h)
 
       -- accepted
-      module _ (z : x .refusal ≡ 0) where
+      module _ (z : refusal ≡ 0) where
+        well-formed : malformed ≡ false
+        well-formed = go malformed first
+          where
+            go : (t : Bool) → refusal ≡ cond t 1 (x .refusal) → t ≡ false
+            go true e = absurd (omega (arith, sym e ∙ z))
+            go false e = refl
+
         whole : case-refusal c table ≡ 0
-        whole = sym number ∙ z
+        whole = sym number ∙ sym (first ∙ rw well-formed) ∙ z
 
         none : logged-refusal c table scratch lent ≡ 0
         none = same-refusal ∙ whole
@@ -98,15 +112,19 @@ module _ (c : Case) (table : List ℕ) where
           pub count-within : x .count ≤ length now
           count-within = omega (arith, entries-lent, length-take (x .count) now)
 
-          pub answer-room : (output : List ℕ) → 30095 ≤ length output → (length (take (x .count) now) ≤ 2400) × (13 * length (take (x .count) now) + 13 ≤ length output)
+          pub few-lent : length (take (x .count) now) ≤ 2400
+          few-lent = omega (arith, entries-lent, few)
+
+          pub answer-room : (output : List ℕ) → length output ≡ 32768 → 13 * length (take (x .count) now) + 13 ≤ length output
           answer-room output h = omega (arith, entries-lent, few)
 
-          answered : answer-lines (take (x .count) now) (x .share) (x .count) ≡ reply c table
+          answered : answer-lines (take (x .count) now) (x .share) (x .count) ≡ cond malformed (line-of (1 ∷ [])) (reply c table)
           unfolding reply
-          answered = rw (entries, share, count, eq-eqb (case-refusal c table) 0 whole)
+          answered = rw (entries, share, count, well-formed, eq-eqb (case-refusal c table) 0 whole)
 
-          pub answered-long : {k : ℕ} → k ≡ length (answer-lines (take (x .count) now) (x .share) (x .count)) → k ≡ length (reply c table)
+          pub answered-long : {k : ℕ} → k ≡ length (answer-lines (take (x .count) now) (x .share) (x .count)) → k ≡ length (cond malformed (line-of (1 ∷ [])) (reply c table))
           answered-long e = e ∙ ap length answered
 
-          pub answered-left : (before after : List ℕ) → after ≡ in-front (answer-lines (take (x .count) now) (x .share) (x .count)) before → after ≡ in-front (reply c table) before
+          pub answered-left : (before after : List ℕ) → after ≡ in-front (answer-lines (take (x .count) now) (x .share) (x .count)) before
+              → after ≡ in-front (cond malformed (line-of (1 ∷ [])) (reply c table)) before
           answered-left before after e = e ∙ ap (λ l. in-front l before) answered

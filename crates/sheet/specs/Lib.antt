@@ -1,3 +1,2 @@
--- Case sheets: the form of the program's input, and the print that answers it.
-pub mod Sheet
+-- The print that answers a case sheet.
 pub mod Print

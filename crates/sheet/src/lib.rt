@@ -1,21 +1,14 @@
-// Case sheets: reading the program's input, and printing its answer.
+// The bench print: what the program answers to a case sheet.
 ghost use mathlib.Core.Path.{_≡_};
-ghost use Prim.Native.Nat.{_≤_};
+ghost use mathlib.Core.Bool.{cond};
+ghost use mathlib.Core.List.{[], _∷_};
 ghost use lib.ListN.{length};
 ghost use Rattle.log.specs.Written.{in-front};
+ghost use Rattle.calls.specs.Reply.{logged-reply, logged-log};
+ghost use Rattle.log_print.specs.Lines.{line-of};
 ghost use Rattle.sheet.specs.Print.{print as Print·print, reply as Print·reply};
-
-mod printer;
-mod reader;
-
+use lookup::Called;
 use lookup::Case;
-
-// A case sheet that was read: whether it is malformed, its case, and how many table entries it has.
-pub struct Sheet {
-    pub malformed: bool,
-    pub case: Case,
-    pub entries: usize,
-}
 
 // Prints the answer to the input in front in the output, and returns the count of its bytes. The output is long enough for any answer.
 pub fn print(input: &[u8], output: &mut [u8; 32768]) -> usize
@@ -23,29 +16,40 @@ pub fn print(input: &[u8], output: &mut [u8; 32768]) -> usize
     ensures { λ _. ⌜ now (output .exit) ≡ in-front (Print·print (now (input .entry))) (now (output .entry)) ⌝ }
 {
     let mut table = [0u8; 256];
-    let sheet = reader::read(input, &mut table);
-    if sheet.malformed {
-        return printer::put_refusal(output, 1);
-    }
+    let sheet = case_sheet::read(input, &mut table);
     let entries = sheet.entries;
-    let mut scratch = [0u8; 256];
-    let mut log = [0u16; 2400];
-    reply(
-        sheet.case,
-        &table[..entries],
-        &mut scratch,
-        &mut log,
-        output,
-    )
+    reply(sheet.malformed, sheet.case, &table[..entries], output)
 }
 
-// The answer to a case. Scratch, log and output are long enough for any case, so it has a `requires`.
-fn reply(case: Case, table: &[u8], scratch: &mut [u8], log: &mut [u16], output: &mut [u8]) -> usize
-    requires { ⌜ (256 ≤ length (now scratch)) × (2314 ≤ length (now log)) × (30095 ≤ length (now output)) ⌝ }
-    ensures { λ r. ⌜ r ≡ length (Print·reply case (now (table .entry))) ⌝ }
-    ensures { λ _. ⌜ now (output .exit) ≡ in-front (Print·reply case (now (table .entry))) (now (output .entry)) ⌝ }
+// The answer to a case, or 1 to a malformed sheet. Scratch, log and output are long enough for any case.
+fn reply(malformed: bool, case: Case, table: &[u8], output: &mut [u8; 32768]) -> usize
+    ensures { λ r. ⌜ r ≡ length (cond malformed (line-of (1 ∷ [])) (Print·reply case (now (table .entry)))) ⌝ }
+    ensures { λ _. ⌜ now (output .exit) ≡ in-front (cond malformed (line-of (1 ∷ [])) (Print·reply case (now (table .entry)))) (now (output .entry)) ⌝ }
 {
-    let called = calls::logged_call(
+    let mut scratch = [0u8; 256];
+    let mut log = [0u16; 2400];
+    let called = call(case, table, &mut scratch, &mut log);
+    let refusal = first_refusal(malformed, called.refusal);
+    if refusal != 0 {
+        return log_print::put_refusal(output, refusal);
+    }
+    let count = called.count as usize;
+    log_print::put_answer(output, &log[..count], called.share, called.count)
+}
+
+// Number 1 comes before the number of the case's refusal. A malformed sheet's numbers are all 0, so the call refuses it too.
+fn first_refusal(malformed: bool, number: u32) -> u32
+    ensures { λ r. ⌜ r ≡ cond malformed 1 number ⌝ }
+{
+    if malformed { 1 } else { number }
+}
+
+// The logged call of a case.
+fn call(case: Case, table: &[u8], scratch: &mut [u8], log: &mut [u16]) -> Called
+    ensures { λ r. ⌜ r ≡ logged-reply case (now (table .entry)) (now (scratch .entry)) (now (log .entry)) ⌝ }
+    ensures { λ _. ⌜ now (log .exit) ≡ logged-log case (now (table .entry)) (now (scratch .entry)) (now (log .entry)) ⌝ }
+{
+    calls::logged_call(
         case.method,
         case.n,
         case.m,
@@ -59,10 +63,5 @@ fn reply(case: Case, table: &[u8], scratch: &mut [u8], log: &mut [u16], output: 
         table,
         scratch,
         log,
-    );
-    if called.refusal != 0 {
-        return printer::put_refusal(output, called.refusal);
-    }
-    let count = called.count as usize;
-    printer::put_answer(output, &log[..count], called.share, called.count)
+    )
 }

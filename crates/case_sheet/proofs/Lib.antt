@@ -1,0 +1,4 @@
+-- The laws of case sheets.
+pub mod Items
+pub mod Found
+pub mod Sheets

@@ -1,0 +1,2 @@
+-- Case sheets: the form of the program's input.
+pub mod Sheet

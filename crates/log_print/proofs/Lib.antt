@@ -1,0 +1,3 @@
+-- The laws of printed lines.
+pub mod Lines
+pub mod Entries

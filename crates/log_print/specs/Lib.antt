@@ -1,0 +1,2 @@
+-- The print of a log.
+pub mod Lines

@@ -1,0 +1,56 @@
+// Printing a log or a refusal. The caller's output is long enough for the longest log, so the functions here have a `requires`.
+ghost use mathlib.Core.Path.{_≡_};
+ghost use mathlib.Core.List.{[], _∷_};
+ghost use Prim.Native.Nat.{_+_, _*_, _≤_};
+ghost use lib.ListN.{length};
+ghost use Rattle.log.specs.Written.{written, in-front};
+ghost use Rattle.log_print.specs.Lines.{line-of, entry-lines, answer-lines};
+
+// A refusal's number is the only line. Returns the count of bytes.
+pub fn put_refusal(output: &mut [u8], refusal: u32) -> usize
+    requires { ⌜ 5 ≤ length (now output) ⌝ }
+    ensures { λ r. ⌜ r ≡ length (line-of (refusal ∷ [])) ⌝ }
+    ensures { λ _. ⌜ now (output .exit) ≡ in-front (line-of (refusal ∷ [])) (now (output .entry)) ⌝ }
+{
+    field::print(output, 0, 4, refusal);
+    output[4] = b'\n';
+    5
+}
+
+// The lines of a log, then refusal 0, the answer share and the count. Returns the count of bytes.
+pub fn put_answer(output: &mut [u8], log: &[u16], share: u32, count: u32) -> usize
+    requires { ⌜ (length (now log) ≤ 2400) × (13 * length (now log) + 13 ≤ length (now output)) ⌝ }
+    ensures { λ r. ⌜ r ≡ length (answer-lines (now (log .entry)) share count) ⌝ }
+    ensures { λ _. ⌜ now (output .exit) ≡ in-front (answer-lines (now (log .entry)) share count) (now (output .entry)) ⌝ }
+{
+    let last = 13 * log.len();
+    put_entries(output, log, 0);
+    put_line(output, last, 0, share, count);
+    last + 13
+}
+
+// A line for each entry: its position, counted from the first's, its kind and its value. Positions have room in their columns.
+fn put_entries(output: &mut [u8], log: &[u16], first: u32)
+    requires { ⌜ (first + length (now log) ≤ 9999) × (13 * length (now log) ≤ length (now output)) ⌝ }
+    ensures { λ _. ⌜ now (output .exit) ≡ written (now (output .entry)) 0 (entry-lines first (now (log .entry))) ⌝ }
+{
+    let mut i = 0;
+    while i < log.len() {
+        let entry = log[i];
+        let kind = entry / 256;
+        let value = entry % 256;
+        put_line(output, 13 * i, first + i as u32, kind as u32, value as u32);
+        i += 1;
+    }
+}
+
+// Three numbers and a line feed from a position on.
+fn put_line(output: &mut [u8], at: usize, first: u32, second: u32, third: u32)
+    requires { ⌜ at + 13 ≤ length (now output) ⌝ }
+    ensures { λ _. ⌜ now (output .exit) ≡ written (now (output .entry)) at (line-of (first ∷ second ∷ third ∷ [])) ⌝ }
+{
+    field::print(output, at, 4, first);
+    field::print(output, at + 4, 4, second);
+    field::print(output, at + 8, 4, third);
+    output[at + 12] = b'\n';
+}
