@@ -20,12 +20,6 @@ struct views {
     size_t count;
 };
 
-static void *room(size_t count, size_t size) {
-    void *memory = calloc(count, size);
-    if (!memory) abort();
-    return memory;
-}
-
 static struct view view_of(const struct probe *probe, size_t calls) {
     enum { SLOTS = 1 << 16 };
     static uint64_t keys[SLOTS];
@@ -99,8 +93,7 @@ size_t leaking_pairs(const struct probes *probes, size_t inputs) {
             print_probe(probes, views.list[j].probe);
             printf("\n");
         }
-    printf("    %lu probes, %lu of them different; leaking pairs: %lu\n", (unsigned long)probes->count, (unsigned long)views.count,
-           (unsigned long)found);
+    printf("    %lu of the probes tell calls apart in different ways; leaking pairs: %lu\n", (unsigned long)views.count, (unsigned long)found);
     for (size_t i = 0; i < views.count; i++) free(views.list[i].classes);
     free(views.list);
     free(counts);

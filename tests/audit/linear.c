@@ -22,8 +22,7 @@ static int by_moves(const void *one, const void *other) {
 }
 
 static struct moving moving_of(const struct probe *probe, size_t calls, size_t each) {
-    struct moving moving = {probe, calloc(calls, sizeof(uint64_t))};
-    if (!moving.moves) abort();
+    struct moving moving = {probe, room(calls, sizeof(uint64_t))};
     for (size_t call = 0; probe && call < calls; call++) moving.moves[call] = probe->values[call] ^ probe->values[call / each * each];
     return moving;
 }
@@ -53,8 +52,7 @@ static void show(const struct probes *probes, const struct moving *one, const st
 // Those that move alike stand beside each other once sorted. If none of them differs from its neighbour, no two differ.
 size_t leaking_sums(const struct probes *probes, size_t inputs) {
     size_t count = probes->count + 1, each = probes->calls / inputs, found = 0;
-    struct moving *all = calloc(count, sizeof *all);
-    if (!all) abort();
+    struct moving *all = room(count, sizeof *all);
     for (size_t i = 0; i < count; i++) all[i] = moving_of(i < probes->count ? &probes->list[i] : NULL, probes->calls, each);
     calls_of_all = probes->calls;
     qsort(all, count, sizeof *all, by_moves);
@@ -62,7 +60,7 @@ size_t leaking_sums(const struct probes *probes, size_t inputs) {
         if (!by_moves(&all[i - 1], &all[i]) && differ(&all[i - 1], &all[i], inputs, each)) {
             if (found++ < SHOWN) show(probes, &all[i - 1], &all[i]);
         }
-    printf("    %lu probes; leaking: %lu\n", (unsigned long)probes->count, (unsigned long)found);
+    printf("    leaking, alone or by twos: %lu\n", (unsigned long)found);
     for (size_t i = 0; i < count; i++) free(all[i].moves);
     free(all);
     return found;

@@ -5,7 +5,7 @@
 #include <stdlib.h>
 #include <string.h>
 
-static void *room(size_t count, size_t size) {
+void *room(size_t count, size_t size) {
     void *memory = calloc(count ? count : 1, size);
     if (!memory) abort();
     return memory;

@@ -24,6 +24,9 @@ void drop_probes(struct probes *probes);
 
 void print_probe(const struct probes *probes, const struct probe *probe);
 
+// Memory for so many, all 0; the program ends where there is none.
+void *room(size_t count, size_t size);
+
 // The exact comparison. The calls come input by input, equally many for each input, all choices of masks. Two probes leak if for
 // some two values another number of choices shows them for one input than for another. Prints the first few that leak, and
 // returns how many pairs do; probes that tell calls apart in the same way count once.

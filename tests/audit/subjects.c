@@ -13,11 +13,11 @@ void packed_plain_call(void);
 
 const struct subject *subject_named(const char *name) {
     static const struct subject subjects[] = {
-        {"plain", cippazhey_plain_call, false, false},
-        {"logged", cippazhey_logged_call, true, false},
-        {"guarded", guarded_plain_call, false, true},    // must pass
-        {"unguarded", baseline_plain_call, false, true}, // must be caught
-        {"packed", packed_plain_call, false, true},      // must be caught
+        {"plain", cippazhey_plain_call, 6, false, false},
+        {"logged", cippazhey_logged_call, 2, true, false},
+        {"guarded", guarded_plain_call, 3, false, true},    // must pass
+        {"unguarded", baseline_plain_call, 3, false, true}, // must be caught
+        {"packed", packed_plain_call, 3, false, true},      // must be caught
     };
     for (size_t i = 0; i < sizeof subjects / sizeof *subjects; i++)
         if (!strcmp(subjects[i].name, name)) return &subjects[i];

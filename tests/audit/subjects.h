@@ -7,8 +7,9 @@
 struct subject {
     const char *name;
     void (*code)(void);
-    bool logged;  // it writes a log, and each 16-bit part of a register is a probe of its own
-    bool control; // C code that the audit is tried on: one table for each width is enough, and it may run other code at other widths
+    unsigned cases; // how many of the exhaustive cases are for it
+    bool logged;    // it writes a log, and each 16-bit part of a register is a probe of its own
+    bool control;   // C code that the audit is tried on: one leak is enough, and it may run other code at other widths
 };
 
 // NULL where there is none
