@@ -1,8 +1,8 @@
--- `logged_calls::answer_all` is safe and ends: the measure is the number of turns that are left, and nothing has to hold from turn to turn.
+-- `small_calls::main` is safe and ends: the measure is the number of turns that are left, and nothing has to hold from turn to turn.
 -- Assumes nothing.
 use borrow.Author.Needs.{needs}
-use Rattle.logged_calls.proofs.answer_all.Statement.{statement}
-use Rattle.logged_calls.proofs.answer_all.Tie as tie
+use Rattle.small_calls.proofs.main.Statement.{statement}
+use Rattle.small_calls.proofs.main.Tie as tie
 
 abbrev Inv-loop : tie.InvT-loop
 Inv-loop file turns₀ turns = Unit {0}
@@ -10,12 +10,13 @@ Inv-loop file turns₀ turns = Unit {0}
 abbrev μ-loop : tie.MeasureT-loop
 μ-loop file turns₀ turns = turns
 
-pub answer-all-spec : {M : Type 1} → statement M
-answer-all-spec =
+pub main-spec : {M : Type 1} → statement M
+main-spec =
     tie.close
     (tie.spec
     Inv-loop
     μ-loop
+    (λ c κs. tt)
     (λ c. tt)
     (λ c κs. tt)
     (λ c. search needs)

@@ -1,2 +1,0 @@
--- What the parts of a slice that are lent have in common.
-pub mod Front

@@ -1,8 +1,0 @@
--- `bench_sheets::write_front` is safe and ends. Assumes nothing.
-use borrow.Author.Needs.{needs}
-use Rattle.bench_sheets.proofs.Front.{front}
-use Rattle.bench_sheets.proofs.write_front.Statement.{statement}
-use Rattle.bench_sheets.proofs.write_front.Tie as tie
-
-pub write-front-spec : {M : Type 1} → statement M
-write-front-spec = tie.close (tie.spec (λ c. search front) (λ c κs. search needs) (λ c. search needs) (λ c. search needs))

@@ -1,0 +1,2 @@
+-- The numbers in a record.
+pub mod Little
