@@ -27,8 +27,8 @@ pub struct Called {
 
 // Hands a value back as it is, through one of two cells of memory that both hold it. The compiler cannot know which, so it does not
 // join what makes the value with what is done to it. It stands between two exclusive ors with masks: joined, they would be one with
-// both masks at once, and the sum of two masks beside another value gives the secret away. No proof sees this; tests/audit does. The
-// index is a mask that no check or caller fixes.
+// both masks at once, and the sum of two masks beside a third value gives the secret away. Only tests/audit guards it: a body that
+// returns the value at once is proved too. The index is a mask, since no check fixes it and no caller passes a constant.
 pub fn value_barrier(value: u8, index: u32) -> u8
     ensures { λ r. ⌜ r ≡ value ⌝ }
 {

@@ -12,7 +12,7 @@ use lib.ListN.{length}
 use lib.Pow.{pow-mono, pow-pos}
 use Rattle.refusals.specs.Tests.{outside, any-from}
 use Rattle.refusals.proofs.Tests.{inside}
-use Rattle.table.specs.Balanced.{at, count-of, balanced}
+use Rattle.table.specs.Balanced.{at, balanced}
 use Rattle.table.specs.Counts.{Tally, Joined}
 use Rattle.table.proofs.Balanced.{at-below, balanced-made, balanced-count}
 use Rattle.table.proofs.Often.{each-equal, count-past}

@@ -1,5 +1,4 @@
 -- `lookup::masked_entry` meets its contract. Assumes nothing.
-use mathlib.Core.Path.{refl}
 use borrow.Author.Needs.{needs}
 use Rattle.bits.specs.Xor.{_⊕_}
 use Rattle.table.specs.Balanced.{at}
