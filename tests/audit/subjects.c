@@ -10,6 +10,7 @@ void cippazhey_logged_call(void);
 void guarded_plain_call(void);
 void baseline_plain_call(void);
 void packed_plain_call(void);
+void vector_plain_call(void);
 
 const struct subject *subject_named(const char *name) {
     static const struct subject subjects[] = {
@@ -18,6 +19,7 @@ const struct subject *subject_named(const char *name) {
         {"guarded", guarded_plain_call, 3, false, true},    // must pass
         {"unguarded", baseline_plain_call, 3, false, true}, // must be caught
         {"packed", packed_plain_call, 3, false, true},      // must be caught
+        {"vector", vector_plain_call, 3, false, true},      // must be caught
     };
     for (size_t i = 0; i < sizeof subjects / sizeof *subjects; i++)
         if (!strcmp(subjects[i].name, name)) return &subjects[i];
