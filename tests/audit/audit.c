@@ -1,4 +1,4 @@
-// Audits the machine code of one call: `audit SUBJECT METHOD`. Exhaustive at small widths, linear at n = m = 8.
+// Audits the machine code of one call: `audit SUBJECT METHOD [linear]`. Exhaustive at small widths, then linear at n = m = 8, or linear alone.
 // It exits with 0 where nothing leaks, with 1 where something does, and with 2 where it can't tell: a wrong answer, control flow
 // that depends on the numbers, memory written from no register, or code at n = m = 8 that no small width runs.
 #include "probes.h"
@@ -165,14 +165,15 @@ int main(int count, char **words) {
         uint32_t n, m;
         uint8_t table[4];
     } cases[] = {{1, 1, {1, 0}}, {2, 1, {0, 1, 1, 0}}, {2, 2, {2, 0, 3, 1}}, {1, 1, {0, 1}}, {2, 1, {1, 1, 0, 0}}, {2, 2, {0, 1, 3, 2}}};
-    uint32_t method = count == 3 ? (uint32_t)atoi(words[2]) : 0;
+    bool linear_alone = count == 4 && !strcmp(words[3], "linear");
+    uint32_t method = count == 3 || linear_alone ? (uint32_t)atoi(words[2]) : 0;
     int found = SILENT;
-    subject = count == 3 ? subject_named(words[1]) : NULL;
+    subject = method ? subject_named(words[1]) : NULL;
     if (!subject || method < 2 || method > 3) {
-        fprintf(stderr, "usage: audit SUBJECT METHOD\n");
+        fprintf(stderr, "usage: audit SUBJECT METHOD [linear]\n");
         return UNKNOWN;
     }
-    for (size_t i = 0; i < subject->cases && found != UNKNOWN; i++) {
+    for (size_t i = 0; i < subject->cases && found != UNKNOWN && !linear_alone; i++) {
         int here = exhaustive((struct widths){method, cases[i].n, cases[i].m}, cases[i].table);
         if (here > found) found = here;
         if (subject->control && found == LEAKS) break;

@@ -5,8 +5,6 @@
 #include <stdlib.h>
 #include <string.h>
 
-enum { SHOWN = 8 };
-
 // What a probe tells: calls with the same value have the same class. Classes are numbered as they first appear, so two probes
 // that tell calls apart in the same way have the same classes.
 struct view {
@@ -86,12 +84,7 @@ size_t leaking_pairs(const struct probes *probes, size_t inputs) {
     for (size_t i = 0; i < views.count; i++)
         for (size_t j = i; j < views.count; j++) {
             if (!leaks(counts, &views.list[i], &views.list[j], inputs, each)) continue;
-            if (found++ >= SHOWN) continue;
-            printf("    leak: ");
-            print_probe(probes, views.list[i].probe);
-            printf(" with ");
-            print_probe(probes, views.list[j].probe);
-            printf("\n");
+            if (found++ < SHOWN) print_leak(probes, views.list[i].probe, views.list[j].probe);
         }
     printf("    %lu of the probes tell calls apart in different ways; leaking pairs: %lu\n", (unsigned long)views.count, (unsigned long)found);
     for (size_t i = 0; i < views.count; i++) free(views.list[i].classes);

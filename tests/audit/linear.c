@@ -5,8 +5,6 @@
 #include <stdlib.h>
 #include <string.h>
 
-enum { SHOWN = 8 };
-
 // Two probes' exclusive or is the same for all choices of an input just if both move alike from the input's first choice to
 // each other. `moves` has a number for each call; those of each input's first choice are 0.
 struct moving {
@@ -38,17 +36,6 @@ static bool differ(const struct moving *one, const struct moving *other, size_t 
     return false;
 }
 
-static void show(const struct probes *probes, const struct moving *one, const struct moving *other) {
-    printf("    leak: ");
-    for (int i = 0; i < 2; i++) {
-        const struct moving *moving = i ? other : one;
-        if (!moving->probe) continue;
-        if (i && one->probe) printf(" with ");
-        print_probe(probes, moving->probe);
-    }
-    printf("\n");
-}
-
 // Those that move alike stand beside each other once sorted. If none of them differs from its neighbour, no two differ.
 size_t leaking_sums(const struct probes *probes, size_t inputs) {
     size_t count = probes->count + 1, each = probes->calls / inputs, found = 0;
@@ -58,7 +45,8 @@ size_t leaking_sums(const struct probes *probes, size_t inputs) {
     qsort(all, count, sizeof *all, by_moves);
     for (size_t i = 1; i < count; i++)
         if (!by_moves(&all[i - 1], &all[i]) && differ(&all[i - 1], &all[i], inputs, each)) {
-            if (found++ < SHOWN) show(probes, &all[i - 1], &all[i]);
+            const struct probe *one = all[i - 1].probe, *other = all[i].probe;
+            if (found++ < SHOWN) print_leak(probes, one ? one : other, one ? other : NULL);
         }
     printf("    leaking, alone or by twos: %lu\n", (unsigned long)found);
     for (size_t i = 0; i < count; i++) free(all[i].moves);

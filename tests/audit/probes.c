@@ -130,11 +130,21 @@ void drop_probes(struct probes *probes) {
     free(probes->list);
 }
 
-void print_probe(const struct probes *probes, const struct probe *probe) {
+static void print_probe(const struct probes *probes, const struct probe *probe) {
     char name[NAME_LENGTH];
     name_place(probe->place, name);
     if (probe->step == 0)
         printf("%s at entry", name);
     else
         printf("%s at %#lx (step %u)", name, (unsigned long)probes->addresses[probe->step - 1], probe->step);
+}
+
+void print_leak(const struct probes *probes, const struct probe *one, const struct probe *other) {
+    printf("    leak: ");
+    print_probe(probes, one);
+    if (other) {
+        printf(" with ");
+        print_probe(probes, other);
+    }
+    printf("\n");
 }

@@ -22,7 +22,9 @@ struct probes {
 struct probes probes_of(const struct trace *trace, const size_t *starts, size_t calls, bool *clear);
 void drop_probes(struct probes *probes);
 
-void print_probe(const struct probes *probes, const struct probe *probe);
+// Prints what leaks, up to some number of times; the second is NULL where the first leaks alone.
+enum { SHOWN = 8 };
+void print_leak(const struct probes *probes, const struct probe *one, const struct probe *other);
 
 // Memory for so many, all 0; the program ends where there is none.
 void *room(size_t count, size_t size);

@@ -87,7 +87,8 @@ pub fn plain_call(
     )
 }
 
-fn logged(case: Case, table: &[u8], scratch: &mut [u8], log: &mut [u16]) -> Called
+// The same of a case: what `logged_call` is to ten numbers.
+pub fn logged(case: Case, table: &[u8], scratch: &mut [u8], log: &mut [u16]) -> Called
     ensures { λ r. ⌜ r ≡ logged-reply case (now (table .entry)) (now (scratch .entry)) (now (log .entry)) ⌝ }
     ensures { λ _. ⌜ now (scratch .exit) ≡ logged-scratch case (now (table .entry)) (now (scratch .entry)) (now (log .entry)) ⌝ }
     ensures { λ _. ⌜ now (log .exit) ≡ logged-log case (now (table .entry)) (now (scratch .entry)) (now (log .entry)) ⌝ }

@@ -61,25 +61,6 @@ fn case(record: &[u8]) -> Case {
     }
 }
 
-// The call alone: what its contract says is then in no other function's way.
-fn call(case: Case, table: &[u8], scratch: &mut [u8], log: &mut [u16]) -> Called {
-    calls::logged_call(
-        case.method,
-        case.n,
-        case.m,
-        case.x0,
-        case.r1,
-        case.r2,
-        case.s1,
-        case.s2,
-        case.r3,
-        case.b,
-        table,
-        scratch,
-        log,
-    )
-}
-
 fn print_line(called: Called, whole: bool, scratch: &[u8], log: &[u16]) {
     records::print_first(called.refusal);
     records::print_next(called.share);
@@ -92,7 +73,7 @@ fn print_line(called: Called, whole: bool, scratch: &[u8], log: &[u16]) {
 // Makes a record's call on the buffers lent, and prints its line.
 fn print_call(record: &[u8], scratch: &mut [u8], log: &mut [u16]) {
     let table = records::part(record, 46, records::length(record, 40));
-    let called = call(case(record), table, scratch, log);
+    let called = calls::logged(case(record), table, scratch, log);
     print_line(called, records::number(record, 4) <= 2, scratch, log);
 }
 

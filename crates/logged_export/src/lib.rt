@@ -1,4 +1,4 @@
-// The logged call for C programs that measure it; it returns the refusal. Firmware links cippazhey and not this.
+// The logged call for C programs that measure or audit it; it returns the refusal. Firmware links cippazhey and not this.
 ghost use mathlib.Core.Path.{_≡_};
 ghost use Rattle.calls.specs.Reply.{case as Reply·case, logged-reply, logged-scratch, logged-log};
 

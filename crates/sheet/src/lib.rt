@@ -4,10 +4,8 @@ ghost use mathlib.Core.Bool.{cond};
 ghost use mathlib.Core.List.{[], _∷_};
 ghost use lib.ListN.{length};
 ghost use Rattle.log.specs.Written.{in-front};
-ghost use Rattle.calls.specs.Reply.{logged-reply, logged-log};
 ghost use Rattle.log_print.specs.Lines.{line-of};
 ghost use Rattle.sheet.specs.Print.{print as Print·print, reply as Print·reply};
-use lookup::Called;
 use lookup::Case;
 
 // Prints the answer to the input in front in the output, and returns the count of its bytes. The output is long enough for any answer.
@@ -28,7 +26,7 @@ fn reply(malformed: bool, case: Case, table: &[u8], output: &mut [u8; 32768]) ->
 {
     let mut scratch = [0u8; 256];
     let mut log = [0u16; 2400];
-    let called = call(case, table, &mut scratch, &mut log);
+    let called = calls::logged(case, table, &mut scratch, &mut log);
     let refusal = first_refusal(malformed, called.refusal);
     if refusal != 0 {
         return log_print::put_refusal(output, refusal);
@@ -42,26 +40,4 @@ fn first_refusal(malformed: bool, number: u32) -> u32
     ensures { λ r. ⌜ r ≡ cond malformed 1 number ⌝ }
 {
     if malformed { 1 } else { number }
-}
-
-// The logged call of a case.
-fn call(case: Case, table: &[u8], scratch: &mut [u8], log: &mut [u16]) -> Called
-    ensures { λ r. ⌜ r ≡ logged-reply case (now (table .entry)) (now (scratch .entry)) (now (log .entry)) ⌝ }
-    ensures { λ _. ⌜ now (log .exit) ≡ logged-log case (now (table .entry)) (now (scratch .entry)) (now (log .entry)) ⌝ }
-{
-    calls::logged_call(
-        case.method,
-        case.n,
-        case.m,
-        case.x0,
-        case.r1,
-        case.r2,
-        case.s1,
-        case.s2,
-        case.r3,
-        case.b,
-        table,
-        scratch,
-        log,
-    )
 }
