@@ -1,18 +1,18 @@
 -- What an accepted case knows of its numbers and its table. Assumes nothing.
 use mathlib.Core.Path.{_≡_, refl, sym, _∙_}
 use mathlib.Core.Logic.{_⊎_, inl, inr, ⊎-elim}
-use mathlib.Core.Bool.{Bool, true, false, _||_}
+use mathlib.Core.Bool.{Bool, true, false, not, _||_, or-true}
 use mathlib.Core.List.{List}
 use Prim.Native.Nat.{ℕ, _^_, _<_}
 use native.Mathlib.Nat.{lt-of-lt-of-le, le-trans}
 use native.Mathlib.Omega.{arith}
-use borrow.Author.Tests.{eqb-true, ltb-false, not-false}
+use borrow.Author.Tests.{eqb-true, eq-eqb, ltb-false, le-ltb, not-false}
 use lib.Dec.{ltb, eqb}
 use lib.Pow.{pow-mono}
-use Rattle.refusals.proofs.Checks.{passed, passed-both}
-use Rattle.refusals.proofs.Tests.{all-below}
+use Rattle.refusals.proofs.Checks.{passed, passed-both, goes, goes-both, ends}
+use Rattle.refusals.proofs.Tests.{all-below, one-below, none-below}
 use Rattle.table.specs.Refusals.{table-checks, table-refusal}
-use Rattle.table.proofs.Refusals.{Table, table-accepted, table-numbered}
+use Rattle.table.proofs.Refusals.{Table, table-accepted, table-numbered, table-not-refused}
 use Rattle.lookup.specs.declared.Case.{Case}
 use Rattle.lookup.specs.Case.{Q, by-method}
 use Rattle.lookup.specs.Bounded.{Bounded}
@@ -67,6 +67,26 @@ accepted c table e =
       s1 = k1 .0;
       s2 = k2 .0;
     }
+
+-- the method is one of the two, and b is not above what it allows
+method-passes : (method b : ℕ) → Chosen method b → not (eqb method 2 || eqb method 3) ≡ false
+method-passes method b (inl h) = rw (eq-eqb method 2 (h .0))
+method-passes method b (inr h) = rw (eq-eqb method 3 (h .0), or-true (eqb method 2))
+
+b-passes : (method b : ℕ) → Chosen method b → by-method method (ltb 0 b) (ltb 1 b) false ≡ false
+b-passes method b (inl h) = by-2 _ _ _ (h .0) ∙ le-ltb 0 b (omega (arith, h .1))
+b-passes method b (inr h) = by-3 _ _ _ (h .0) ∙ le-ltb 1 b (omega (arith, h .1))
+
+-- and nothing else is asked of it
+pub not-refused : (c : Case) (table : List ℕ) → Accepted c table → case-refusal c table ≡ 0
+unfolding case-refusal case-checks method-checks mask-checks table-refusal
+not-refused c table k =
+    let inputs = one-below _ _ _ (k .x0) (one-below _ _ _ (k .r1) (one-below _ _ _ (k .r2) (one-below _ _ _ (k .r3) (none-below _)))) in
+    let outputs = one-below _ _ _ (k .s1) (one-below _ _ _ (k .s2) (none-below _)) in
+    let masks = goes 10 _ inputs (goes 11 _ outputs (goes 12 _ (b-passes (c .method) (c .b) (k .chosen)) ends)) in
+    sym
+    (goes 2 _ (method-passes (c .method) (c .b) (k .chosen))
+    (goes-both (table-checks (c .n) (c .m) table) (mask-checks c) (table-numbered (c .n) (c .m) table) (sym (table-not-refused (c .n) (c .m) table (k .table))) masks))
 
 -- the numbers of an accepted case are bounded as the runs ask
 pub accepted-bounded : (c : Case) (table : List ℕ) → Accepted c table → Bounded c

@@ -1,11 +1,12 @@
 -- What is promised of an accepted lookup holds. Assumes nothing.
-use mathlib.Core.Path.{_≡_, refl, sym, _∙_}
+use mathlib.Core.Path.{_≡_, refl, sym, ap, _∙_}
 use mathlib.Core.Logic.{inl, inr}
 use mathlib.Core.Bool.{false}
 use mathlib.Core.List.{List}
 use Prim.Native.Nat.{ℕ, _+_, _*_, _^_}
+use native.Mathlib.Nat.{le-refl}
 use native.Mathlib.Omega.{arith}
-use lib.ListN.{length, length-map}
+use lib.ListN.{length, drop, length-map}
 use Rattle.bits.specs.Xor.{_⊕_}
 use Rattle.bits.proofs.Xor.{xors, below}
 use Rattle.refusals.specs.Tests.{any-from}
@@ -15,11 +16,11 @@ use Rattle.lookup.specs.Method2.{masked}
 use Rattle.lookup.specs.Call.{answer, scratch-after}
 use Rattle.lookup.specs.Layout.{Layout, lines}
 use Rattle.lookup.specs.Log.{Line, entry, head-2, pass-2, end-2, layout-2, head-3, pass-3, end-3, layout-3, layout, log, log-length}
-use Rattle.lookup.specs.Promises.{Answer-right, Answer-small, Answer-kept, Log-long}
+use Rattle.lookup.specs.Promises.{Answer-right, Answer-small, Answer-kept, Rest-kept, Log-long}
 use Rattle.lookup.proofs.Accepted.{Chosen, Accepted, accepted}
 use Rattle.lookup.proofs.ByMethod.{by-2, by-3}
-use Rattle.lookup.proofs.Second.{answer-2-is, byte-r3}
-use Rattle.lookup.proofs.Third.{answer-3-is}
+use Rattle.lookup.proofs.Second.{answer-2-is, byte-r3, beyond, r-prime-below}
+use Rattle.lookup.proofs.Third.{answer-3-is, scratch-3-rest}
 use Rattle.lookup.proofs.Layouts.{Each, lines-long}
 use Rattle.lookup.proofs.Lines.{Small, entries-small}
 use Rattle.lookup.proofs.Sizes.{small-2, small-3}
@@ -32,6 +33,17 @@ answer-is c table k = by (k .chosen)
     by : Chosen (c .method) (c .b) → answer c table ≡ masked c table (c .r1 ⊕ c .r2)
     by (inl h) = by-2 _ _ _ (h .0) ∙ answer-2-is c table (k .r1) (k .r2) (k .r3)
     by (inr h) = by-3 _ _ _ (h .0) ∙ answer-3-is c table (h .1) (k .r1) (k .r2) (k .r3)
+
+pub rest-kept : Rest-kept
+unfolding Rest-kept scratch-after
+rest-kept table scratch c e = by (k .chosen)
+  where
+    k : Accepted c table
+    k = accepted c table e
+
+    by : Chosen (c .method) (c .b) → drop (Q c) (scratch-after c table scratch) ≡ drop (Q c) scratch
+    by (inl h) = ap (drop (Q c)) (by-2 _ _ _ (h .0)) ∙ beyond c table (Q c) scratch (r-prime-below c (k .r1) (k .r2) (k .r3)) (le-refl _)
+    by (inr h) = ap (drop (Q c)) (by-3 _ _ _ (h .0)) ∙ scratch-3-rest c table scratch
 
 pub answer-right : Answer-right
 unfolding Answer-right masked

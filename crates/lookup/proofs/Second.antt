@@ -16,6 +16,10 @@ use Rattle.lookup.specs.Case.{Q}
 use Rattle.lookup.specs.Method2.{masked, r-prime, scratch-2, answer-2}
 use Rattle.lookup.proofs.Places.{at-same, at-other}
 
+pub r-prime-below : (c : Case) → c .r1 < Q c → c .r2 < Q c → c .r3 < Q c → r-prime c < Q c
+unfolding r-prime Q
+r-prime-below c h1 h2 h3 = below (c .n) (below (c .n) h1 h3) h2
+
 module _ (c : Case) (table : List ℕ) where
   pub scratch-long : (k : ℕ) (scratch : List ℕ) → length (scratch-2 k c table scratch) ≡ length scratch
   unfolding scratch-2

@@ -6,20 +6,26 @@ use native.Mathlib.Decide.{ℕ-discrete}
 use native.Mathlib.Nat.{not-suc-le-zero, le-of-suc-le-suc, le-refl}
 use native.Mathlib.Omega.{arith}
 use lib.Arith.{lt-of-le-ne}
-use lib.ListN.{length, set, replicate, length-set, length-replicate}
+use lib.ListN.{length, drop, set, replicate, length-set, length-replicate}
+use lib.Seq.{drop-at}
 use Rattle.bits.specs.Xor.{_⊕_}
 use Rattle.bits.proofs.Xor.{xors, below}
 use Rattle.table.specs.Balanced.{at}
 use Rattle.lookup.specs.declared.Case.{Case}
 use Rattle.lookup.specs.Case.{Q}
 use Rattle.lookup.specs.Method2.{masked}
-use Rattle.lookup.specs.Method3.{comparison-table, place-3, compared, registers-3, answer-3}
+use Rattle.lookup.specs.Method3.{comparison-table, scratch-3, place-3, compared, registers-3, answer-3}
 use Rattle.lookup.proofs.Places.{at-same, at-other, at-replicate}
 
 module _ (c : Case) (table : List ℕ) where
   pub comparison-long : length (comparison-table c) ≡ Q c
   unfolding comparison-table
   comparison-long = simp (length-set, length-replicate)
+
+  -- the comparison table has Q bytes, so those behind it stay
+  pub scratch-3-rest : (scratch : List ℕ) → drop (Q c) (scratch-3 c scratch) ≡ drop (Q c) scratch
+  unfolding scratch-3
+  scratch-3-rest scratch = drop-at (comparison-table c) (drop (Q c) scratch) (Q c) comparison-long
 
   -- the turn r1 ⊕ r2 and no other reads byte r3
   place-hits : place-3 c (c .r1 ⊕ c .r2) ≡ c .r3

@@ -3,7 +3,7 @@ use mathlib.Core.Path.{_≡_}
 use mathlib.Core.Bool.{false}
 use mathlib.Core.List.{List}
 use Prim.Native.Nat.{ℕ, _^_, _≤_, _<_}
-use lib.ListN.{length}
+use lib.ListN.{length, drop}
 use Rattle.bits.specs.Xor.{_⊕_}
 use Rattle.refusals.specs.Tests.{any-from}
 use Rattle.table.specs.Balanced.{at}
@@ -27,6 +27,11 @@ unfoldable pub Answer-kept : Type 0
 Answer-kept =
     (table scratch : List ℕ) (c : Case) → case-refusal c table ≡ 0 → c .method ≡ 2 → Q c ≤ length scratch →
     at (scratch-after c table scratch) (c .r3) ≡ answer c table
+
+-- scratch bytes from Q on are unchanged
+unfoldable pub Rest-kept : Type 0
+Rest-kept =
+    (table scratch : List ℕ) (c : Case) → case-refusal c table ≡ 0 → drop (Q c) (scratch-after c table scratch) ≡ drop (Q c) scratch
 
 -- the log has its length, and each entry fits 16 bits
 unfoldable pub Log-long : Type 0

@@ -2,3 +2,4 @@
 pub mod Tabulate
 pub mod Inverse
 pub mod Sbox
+pub mod Promises

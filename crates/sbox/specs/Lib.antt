@@ -2,3 +2,4 @@
 pub mod Tabulate
 pub mod Field
 pub mod Sbox
+pub mod Promises

@@ -1,9 +1,12 @@
--- The third demand holds. Assumes nothing.
+-- The third demand holds, and the choices are as many as document 01 says. Assumes nothing.
 use mathlib.Core.Path.{_≡_, ap, subst, _∙_}
 use mathlib.Core.Logic.{inl, inr}
 use mathlib.Core.List.{List, [], _∷_, map}
-use Prim.Native.Nat.{ℕ, _^_, _<_}
-use Rattle.counting.specs.Choice.{width}
+use Prim.Native.Nat.{ℕ, _+_, _*_, _^_, _<_}
+use native.Mathlib.Omega.{arith}
+use lib.Pow.{pow-add}
+use Rattle.counting.specs.Choice.{width, total}
+use Rattle.counting.proofs.Over.{choices}
 use Rattle.probing.specs.Expression.{value}
 use Rattle.probing.specs.Alike.{widths}
 use Rattle.probing.proofs.Sound.{alike}
@@ -11,9 +14,10 @@ use Rattle.table.proofs.Balanced.{balanced-below}
 use Rattle.table.proofs.Even.{balanced-even}
 use Rattle.lookup.specs.Layout.{Layout, lines}
 use Rattle.lookup.specs.Log.{Line, layout, layout-2, layout-3}
+use Rattle.lookup.specs.Case.{by-method}
 use Rattle.lookup.proofs.ByMethod.{by-2, by-3}
 use Rattle.secrecy.specs.Count.{case-of, mask-widths}
-use Rattle.secrecy.specs.Promises.{Tells-nothing, Even-tells-nothing}
+use Rattle.secrecy.specs.Promises.{Tells-nothing, Even-tells-nothing, Choices-counted}
 use Rattle.secrecy.specs.Expressions
 use Rattle.secrecy.specs.Expressions.{system, setting}
 use Rattle.secrecy.proofs.Fine.{any-two-2, any-two-3}
@@ -55,3 +59,10 @@ pub tells-nothing : Tells-nothing
 unfolding Tells-nothing Even-tells-nothing
 tells-nothing table method n m x y i j u v balance =
     even-tells-nothing table method n m x y i j u v (balanced-even n m table balance) (balanced-below n m table balance)
+
+pub choices-counted : Choices-counted
+unfolding Choices-counted mask-widths by-method total
+choices-counted n m =
+    let two : total (mask-widths 2 n m) ≡ 3 * n + 2 * m = omega arith in
+    let three : total (mask-widths 3 n m) ≡ 1 + (3 * n + 2 * m) = omega arith in
+    (choices (mask-widths 2 n m) ∙ rw two, choices (mask-widths 3 n m) ∙ rw three (pow-add 2 1 (3 * n + 2 * m)))

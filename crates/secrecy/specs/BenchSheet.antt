@@ -1,16 +1,16 @@
 -- Document 01's bench sheet, P1 to P12: on each line what the definitions come to, and what the paper says. Assumes nothing: these are definitions.
 use mathlib.Core.Path.{_≡_}
 use mathlib.Core.List.{List, [], _∷_, _++_, map}
-use Prim.Native.Nat.{ℕ}
+use Prim.Native.Nat.{ℕ, suc}
 use lib.ListN.{replicate}
 use Rattle.counting.specs.Choice.{over}
 use Rattle.shares.specs.Shares.{join}
 use Rattle.linear.specs.Layer.{layer}
 use Rattle.lookup.specs.declared.Case.{Case}
 use Rattle.lookup.specs.Call.{answer, scratch-after}
-use Rattle.lookup.specs.Refusals.{case-refusal, logged-refusal}
+use Rattle.lookup.specs.Refusals.{logged-refusal}
 use Rattle.calls.specs.Reply.{case}
-use Rattle.secrecy.specs.Count.{mask-widths, count}
+use Rattle.secrecy.specs.Count.{case-of, mask-widths, count}
 
 pub record Line : Type 0 where
   pub comes-to : List ℕ
@@ -31,10 +31,10 @@ P2 = case 2 2 2 0 1 2 3 0 2 0
 abbrev refused : Case → (table : List ℕ) → (scratch log : ℕ) → ℕ
 refused c table scratch log = logged-refusal c table (replicate scratch 0) (replicate log 0)
 
--- every case of these widths, shares and masks in their widths, b = 0: the numbers handed back, added up
-abbrev all-masks : (method n m : ℕ) → (table : List ℕ) → ℕ
-all-masks method n m table =
-    over (n ∷ n ∷ n ∷ n ∷ m ∷ m ∷ []) (λ c. case-refusal (case method n m (c 0) (c 1) (c 2) (c 4) (c 5) (c 3) 0) table)
+-- every input with every choice of masks in their widths: the logged call's numbers, added up
+abbrev all-masks : (method n m : ℕ) → (table : List ℕ) → (scratch log : ℕ) → ℕ
+all-masks method n m table scratch log =
+    over (n ∷ mask-widths method n m) (λ c. refused (case-of method n m (c 0) (λ i. c (suc i))) table scratch log)
 
 -- the counts of the four pairs of bits
 abbrev pairs : (table : List ℕ) → (method n m x i j : ℕ) → List ℕ
@@ -56,7 +56,8 @@ sheet =
     -- P5: n = 2, m = 3: 4
     ∷ (refused (case 2 2 3 0 1 2 3 0 2 0) A 4 34 ∷ []) says (4 ∷ [])
     -- P6: n = 2, m = 1, table 0, 0, 0, 1: 7; table 0, 1, 1, 0, with every mask in its width, is accepted
-    ∷ (refused (case 2 2 1 0 1 2 1 0 2 0) (0 ∷ 0 ∷ 0 ∷ 1 ∷ []) 4 34 ∷ all-masks 2 2 1 (0 ∷ 1 ∷ 1 ∷ 0 ∷ []) ∷ []) says (7 ∷ 0 ∷ [])
+    ∷ (refused (case 2 2 1 0 1 2 1 0 2 0) (0 ∷ 0 ∷ 0 ∷ 1 ∷ []) 4 34 ∷ refused (case 3 2 1 0 1 2 1 0 2 1) (0 ∷ 0 ∷ 0 ∷ 1 ∷ []) 4 46 ∷ []) says (7 ∷ 7 ∷ [])
+    ∷ (all-masks 2 2 1 (0 ∷ 1 ∷ 1 ∷ 0 ∷ []) 4 34 ∷ all-masks 3 2 1 (0 ∷ 1 ∷ 1 ∷ 0 ∷ []) 4 46 ∷ []) says (0 ∷ 0 ∷ [])
     -- P7: scratch of 3 bytes: 13; with 4 accepted
     ∷ (refused P2 A 3 34 ∷ refused P2 A 4 34 ∷ []) says (13 ∷ 0 ∷ [])
     -- P8: a log of 33: 14; with 34 accepted

@@ -1,4 +1,5 @@
--- The count: over all choices of masks, how many put two given values at two given positions of the log. Assumes nothing: these are definitions.
+-- The count: over all choices of masks, how many put two given values at two given positions, of the log that the documents lay out and of the
+-- one that the call leaves. Assumes nothing: these are definitions.
 use mathlib.Core.Bool.{cond, _&&_}
 use mathlib.Core.List.{List, [], _∷_}
 use Prim.Native.Nat.{ℕ, _%_}
@@ -9,6 +10,7 @@ use Rattle.table.specs.Balanced.{at}
 use Rattle.lookup.specs.declared.Case.{Case}
 use Rattle.lookup.specs.Case.{by-method}
 use Rattle.lookup.specs.Log.{log}
+use Rattle.calls.specs.Reply.{logged-log}
 
 -- a choice fixes r1, r2, r3, s1, s2 and b, in this order; x0 follows from x
 unfoldable pub case-of : (method n m x : ℕ) → (choice : ℕ → ℕ) → Case
@@ -29,3 +31,8 @@ shows i j u v log = cond (eqb (value-at log i) u && eqb (value-at log j) v) 1 0
 
 unfoldable pub count : (table : List ℕ) → (method n m x i j u v : ℕ) → ℕ
 count table method n m x i j u v = over (mask-widths method n m) (λ c. shows i j u v (log (case-of method n m x c) table))
+
+-- the same of the lent log, as the logged call leaves it for each choice
+unfoldable pub call-count : (table scratch lent : List ℕ) → (method n m x i j u v : ℕ) → ℕ
+call-count table scratch lent method n m x i j u v =
+    over (mask-widths method n m) (λ c. shows i j u v (logged-log (case-of method n m x c) table scratch lent))
