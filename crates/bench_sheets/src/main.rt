@@ -27,7 +27,8 @@ fn answer_next(file: i32) -> bool {
         return false;
     }
     let mut space = io::buffer();
-    answer(file, records::front(&mut space, records::length(&size, 0)))
+    let length = records::least(records::length(&size, 0), 4096);
+    answer(file, &mut space[..length])
 }
 
 // A proved loop has to end, so it counts down from more turns than any file of cases takes.

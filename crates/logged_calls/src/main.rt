@@ -81,11 +81,9 @@ fn print_call(record: &[u8], scratch: &mut [u8], log: &mut [u16]) {
 fn answer(record: &[u8]) {
     let mut scratch = [165u8; 300];
     let mut log = [42405u16; 2400];
-    print_call(
-        record,
-        records::front(&mut scratch, records::length(record, 42)),
-        records::front_entries(&mut log, records::length(record, 44)),
-    );
+    let bytes = records::least(records::length(record, 42), 300);
+    let entries = records::least(records::length(record, 44), 2400);
+    print_call(record, &mut scratch[..bytes], &mut log[..entries]);
 }
 
 // Reads one record and answers it; false where the file holds no more.

@@ -15,7 +15,7 @@ use Rattle.counting.proofs.Over.{over-local}
 use Rattle.probing.specs.Expression.{Expression, mask, System, Setting, value}
 use Rattle.probing.specs.Alike.{widths, Valid, seen, Even, Known}
 use Rattle.probing.specs.Test.{of-class, absent, indexing}
-use Rattle.probing.proofs.Absent.{absent-value, Plus, Shows, rest-is}
+use Rattle.probing.proofs.Masks.{absent-value, Plus, Shows, rest-is}
 use Rattle.probing.proofs.Class.{class-below}
 
 swap : (a b c : ℕ) → a ⊕ b ⊕ c ≡ a ⊕ c ⊕ b

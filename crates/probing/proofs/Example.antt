@@ -1,6 +1,6 @@
--- The leak test on a small system: pairs that pass, pairs that leak and do not pass, and what passing says for one table. Assumes nothing.
-use mathlib.Core.Path.{_≡_, refl, sym, ap, _∙_}
-use mathlib.Core.Bool.{false, cond}
+-- The leak test on a small system: pairs that pass, and what passing says for one table. Assumes nothing.
+use mathlib.Core.Path.{sym, ap, _∙_}
+use mathlib.Core.Bool.{cond}
 use mathlib.Core.List.{List, [], _∷_}
 use Prim.Native.Nat.{ℕ, zero, suc, _%_, _^_, _<_}
 use native.Mathlib.Nat.{mod-lt, mod-eq-of-lt, le-refl}
@@ -13,15 +13,11 @@ use Rattle.counting.specs.Choice.{_▸_}
 use Rattle.counting.proofs.Sum.{sum-ext}
 use Rattle.counting.proofs.Shift.{shift}
 use Rattle.counting.proofs.Choice.{within-none, within-more}
-use Rattle.probing.specs.Expression.{Expression, secret, mask, number, _⊞_, lookup, differ, System, Setting}
+use Rattle.probing.specs.Expression.{Expression, secret, mask, number, _⊞_, lookup, differ, Setting}
 use Rattle.probing.specs.Alike.{Alike, Even, Known}
 use Rattle.probing.specs.Test.{fine, all-fine}
+use Rattle.probing.proofs.Caught.{system}
 use Rattle.probing.proofs.Sound.{alike}
-
--- three masks for an input, two for an answer and one for a comparison; the input and its entry in the table, the answer, are secret
-abbrev system : (flag : ℕ) → System
-system flag =
-    record { masks = 0 ∷ 0 ∷ 0 ∷ 1 ∷ 1 ∷ 2 ∷ []; secrets = 0 ∷ 1 ∷ []; tables = record { from = 0; to = 1; entry = 1 } ∷ []; flag = flag }
 
 abbrev input : Expression
 input = secret 0 ⊞ mask 0 ⊞ mask 1
@@ -59,41 +55,6 @@ steps a = input ∷ refreshed ∷ compared a ⊞ mask 5 ∷ entry a ∷ answer �
 all-pairs : (a a' : ℕ) → T (all-fine (system 2) (steps a) (steps a'))
 unfolding all-fine
 all-pairs a a' = tt
-
--- each of these pairs leaks for some widths and tables: a secret beside its masks, or beside an entry at its mask; an entry beside its mask;
--- a secret under a mask of another class, or added to an entry of a table that does not lead to it; a comparison under no mask, or under one
--- of another class
-input-masks : fine (system 3) input (mask 0 ⊞ mask 1) ≡ false
-unfolding fine
-input-masks = refl
-
-answer-masks : fine (system 3) answer (mask 3 ⊞ mask 4) ≡ false
-unfolding fine
-answer-masks = refl
-
-entry-mask : (a : ℕ) → fine (system 3) (lookup 0 (secret 0 ⊞ number 0 a) ⊞ mask 3) (mask 3) ≡ false
-unfolding fine
-entry-mask a = refl
-
-secret-entry : fine (system 3) (secret 0 ⊞ mask 0) (lookup 0 (mask 0)) ≡ false
-unfolding fine
-secret-entry = refl
-
-narrow-mask : (a : ℕ) → fine (system 3) (secret 0 ⊞ mask 3) (number 0 a) ≡ false
-unfolding fine
-narrow-mask a = refl
-
-other-table : (a : ℕ) → fine (system 3) (lookup 0 (mask 0) ⊞ secret 0) (number 0 a) ≡ false
-unfolding fine
-other-table a = refl
-
-compared-bare : (a : ℕ) → fine (system 2) (compared a) input ≡ false
-unfolding fine
-compared-bare a = refl
-
-compared-other : (a : ℕ) → fine (system 3) (compared a ⊞ mask 5) input ≡ false
-unfolding fine
-compared-other a = refl
 
 -- the table of n bits in which each index is its own entry
 abbrev setting : (n : ℕ) → Setting

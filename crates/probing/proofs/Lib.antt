@@ -1,8 +1,9 @@
--- The leak test is sound.
+-- The leak test passes no pair of those that leak, and it is sound.
+pub mod Caught
 pub mod Bool
 pub mod Change
 pub mod Offset
-pub mod Absent
+pub mod Masks
 pub mod Class
 pub mod Search
 pub mod Cover

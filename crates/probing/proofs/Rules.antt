@@ -16,7 +16,7 @@ use Rattle.probing.specs.Alike.{widths, Valid, seen, Alike, Even, Known}
 use Rattle.probing.specs.Test.{off-by, shiftable, of-class, absent, Standing, added, indexing, otherwise, standing, leads, covered, masked, unseen}
 use Rattle.probing.proofs.Change.{within-change}
 use Rattle.probing.proofs.Offset.{off-by-value}
-use Rattle.probing.proofs.Absent.{Shows, shows}
+use Rattle.probing.proofs.Masks.{Shows, shows}
 use Rattle.probing.proofs.Cover.{replaced, evened}
 use Rattle.probing.proofs.Search.{some-place-found, some-shift-found}
 

@@ -1,2 +1,3 @@
--- The numbers in a record.
+-- What holds of files, and the numbers in a record.
+pub mod Files
 pub mod Little

@@ -1,23 +1,29 @@
 // Files of test cases: their records one after the other, the numbers in a record, and numbers printed on a line.
 ghost use mathlib.Core.Path.{_≡_};
-ghost use Prim.Native.Nat.{_<_};
+ghost use Prim.Native.Nat.{_≤_, _<_, min};
 ghost use lib.ListN.{getD, take, drop};
+ghost use Rattle.records.specs.Files.{Opened, Filled};
 ghost use Rattle.records.specs.Little.{length-at, number-at};
 use libc::STDOUT_FILENO;
 
-// Opens the file `cases`. Where that fails it says why, and `read` then finds no record.
-pub fn open() -> i32 {
+// Opens the file `cases`. Where that fails it says why and answers -1, from which `read` takes no record.
+pub fn open() -> i32
+    ensures { λ r. ⌜ Opened r ⌝ }
+{
     let path = b"cases";
     let file = os::open_read(path);
     if file < 0 {
         os::fail(path);
+        return -1;
     }
     file
 }
 
-// Fills the record from the file; false where the file holds no whole record more.
-pub fn read(file: i32, record: &mut [u8]) -> bool {
-    io::read_full(file, record) == record.len()
+// Fills the space from the file; false where the file holds no whole record more. No contract can say what the system reads.
+pub fn read(file: i32, space: &mut [u8]) -> bool
+    ensures { λ r. ⌜ Filled (now (space .entry)) (now (space .exit)) r ⌝ }
+{
+    io::read_full(file, space) == space.len()
 }
 
 // The byte at a place; past the end it is 0.
@@ -63,24 +69,12 @@ pub fn part(bytes: &[u8], from: usize, length: usize) -> &[u8]
     &rest[..length]
 }
 
-// So many bytes in front, or all where there are fewer: a lent space of a record's size.
-pub fn front(bytes: &mut [u8], length: usize) -> &mut [u8]
-    ensures { λ r. ⌜ now r ≡ take length (now (bytes .entry)) ⌝ }
+// The smaller of two numbers: how much of a lent space a record asks for.
+pub fn least(one: usize, other: usize) -> usize
+    ensures { λ r. ⌜ r ≡ min one other ⌝ }
+    ensures { λ r. ⌜ r ≤ other ⌝ }
 {
-    if length > bytes.len() {
-        return bytes;
-    }
-    &mut bytes[..length]
-}
-
-// The same of entries.
-pub fn front_entries(entries: &mut [u16], length: usize) -> &mut [u16]
-    ensures { λ r. ⌜ now r ≡ take length (now (entries .entry)) ⌝ }
-{
-    if length > entries.len() {
-        return entries;
-    }
-    &mut entries[..length]
+    if one < other { one } else { other }
 }
 
 // Prints a line's first number.

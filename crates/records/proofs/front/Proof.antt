@@ -1,8 +1,0 @@
--- `records::front` meets its contract. Assumes nothing.
-use mathlib.Core.Path.{refl}
-use Rattle.records.proofs.Parts.{front-all, front-counted}
-use Rattle.records.proofs.front.Statement.{statement}
-use Rattle.records.proofs.front.Tie as tie
-
-pub front-spec : {M : Type 1} → statement M
-front-spec = tie.close (tie.spec (λ c. search front-all) (λ c. search front-counted) (λ c. refl))
