@@ -14,6 +14,9 @@ module _ (l : List ℕ) (n : ℕ) where
   pub front-counted : n ≤ length l → n ≡ length (take n l)
   front-counted h = sym (length-take-le n l h)
 
+  pub front-within : (size : ℕ) → n ≤ size → size ≡ length l → n ≡ length (take n l)
+  front-within size h e = front-counted (omega arith)
+
 -- the code has the rest from k on as the front of its own length
 module _ (l : List ℕ) (k n : ℕ) where
   rest-all : take (length l - k) (drop k l) ≡ drop k l

@@ -1,6 +1,6 @@
 -- `bench_sheets::answer_next` is safe: what it lends is a front of its space. Assumes nothing.
 use borrow.Author.Needs.{needs}
-use Rattle.records.proofs.Parts.{front-counted}
+use Rattle.records.proofs.Parts.{front-within}
 use Rattle.bench_sheets.proofs.answer_next.Statement.{statement}
 use Rattle.bench_sheets.proofs.answer_next.Tie as tie
 
@@ -8,4 +8,4 @@ pub answer-next-spec : {M : Type 1} → statement M
 answer-next-spec =
     tie.close
     (tie.spec (λ c. search needs) (λ c κs. search needs) (λ c. search needs) (λ c κs. search needs) (λ c. search needs) (λ c κs. search needs)
-    (λ c κs. search needs) (λ c. search needs) (λ c. search (front-counted, needs)) (λ c κs. search needs) (λ c. search needs))
+    (λ c κs. search needs) (λ c. search needs) (λ c. search (front-within, needs)) (λ c κs. search needs) (λ c. search needs))
