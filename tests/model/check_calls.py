@@ -180,4 +180,5 @@ def leaks():
         yield f"s1 and s2 in one go at {secret}", len(zeros), figure
 
 
-GROUPS = (bench_sheet, lengths, refusals, widths, counts, leaks, scratches, answers)
+# the quick ones first
+GROUPS = (lengths, refusals, widths, counts, leaks, bench_sheet, scratches, answers)
