@@ -131,7 +131,8 @@ def control(program):
 def main():
     program = os.path.abspath(sys.argv[1])
     found = list(control(program) if sys.argv[2:] == ["--control"] else test(program))
-    print(*found, sep="\n")
+    for complaint in found:
+        print(complaint)
     sys.exit(1 if found else 0)
 
 

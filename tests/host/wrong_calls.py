@@ -156,7 +156,8 @@ def complaints(folder):
 def main():
     with tempfile.TemporaryDirectory() as folder:
         found = list(complaints(Path(folder)))
-    print(*found, sep="\n")
+    for complaint in found:
+        print(complaint)
     sys.exit(1 if found else 0)
 
 

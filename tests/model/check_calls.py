@@ -98,7 +98,7 @@ def answers():
             yield (case, "exported"), model.exported_call(case, table, [7] * 6), (share, scratch)
 
 
-# Scratch byte a + r' is the masked entry at x0 + a, so byte c is the one at x + r3 + c. Under method 3 byte r3 alone is b.
+# Scratch byte a ⊕ r' is the masked entry at x0 ⊕ a, so byte c is the one at x ⊕ r3 ⊕ c. Under method 3 byte r3 alone is b.
 def scratches():
     for case in model.choices(2, 2, 2, 3):
         wanted = [TABLE_A[3 ^ case.r3 ^ c] ^ case.s1 ^ case.s2 for c in range(4)]
@@ -145,8 +145,6 @@ def refusals():
             for other, second, value2 in FAULTS:
                 if other >= refusal and second != place:
                     yield from refused({**fine, place: value, second: value2}, refusal)
-    yield "b = 1 under method 2", refusal_of(P2._replace(b=1), TABLE_A), 12
-    yield "b = 1 under method 3", refusal_of(P2._replace(method=3, b=1), TABLE_A), 0
 
 
 # At every pair of widths, what is just inside is accepted.
@@ -180,5 +178,5 @@ def leaks():
         yield f"s1 and s2 in one go at {secret}", len(zeros), figure
 
 
-# the quick ones first
+# The quick ones come first.
 GROUPS = (lengths, refusals, widths, counts, leaks, bench_sheet, scratches, answers)

@@ -252,7 +252,8 @@ def main():
     for module, edits in ((model, MODEL), (sbox, SBOX)):
         found += [f"{module.__name__}: {complaint}" for complaint in complaints(module, edits)]
         print(f"{sum(map(len, edits.values()))} edits of {module.__name__}.py")
-    print(*found, sep="\n")
+    for complaint in found:
+        print(complaint)
     sys.exit(1 if found else 0)
 
 
