@@ -1,58 +1,139 @@
-# Runs the linked bench program on sheets and compares what it prints with the model: from files, through a pipe that delivers byte
-# by byte, and on random and mutated inputs. Run: python3 tests/host/bench_test.py PROGRAM [MUTATED]; the status is 0 or 1.
+# Runs the linked bench program on sheets, and compares what it prints and its exit status with the model: from files, through a pipe in
+# pieces that it must read one by one, on input longer than it can hold, and on random and mutated input.
+# Run: python3 tests/host/bench_test.py PROGRAM, or with --control behind it for wrong programs, each of which a way must notice.
+# The status is 0, or 1 where something differs, is missing or goes unnoticed.
+import contextlib
+import fcntl
+import itertools
+import os
 import random
+import signal
 import subprocess
 import sys
 import tempfile
+import termios
 from pathlib import Path
 
 sys.path.insert(0, str(Path(__file__).resolve().parents[1] / "model"))
 import model
 import sheets
 
-program = sys.argv[1]
-mutations = int(sys.argv[2]) if len(sys.argv) > 2 else 20000
-failures = 0
+LONGEST_RUN = 20  # seconds
 
 
-def compare(kind, text, printed):
-    global failures
-    if printed != model.bench(text):
-        failures += 1
-        if failures <= 5:
-            print(f"{kind}: differs on {text[:80]!r}: {printed[:60]!r}")
-
-
-def from_file(text):
-    with tempfile.TemporaryFile() as file:
-        file.write(text)
+# Standard input and output are files, used again for each run: starting the program is most of the work.
+def run_on_files(stdin, stdout, command, text):
+    for file, content in ((stdin, text), (stdout, b"")):
         file.seek(0)
-        return subprocess.run([program], stdin=file, capture_output=True, timeout=20).stdout
+        file.truncate()
+        file.write(content)
+        file.seek(0)
+    actions = [(os.POSIX_SPAWN_DUP2, stdin.fileno(), 0), (os.POSIX_SPAWN_DUP2, stdout.fileno(), 1)]
+    signal.alarm(LONGEST_RUN)
+    _, status = os.waitpid(os.posix_spawn(command[0], command, os.environ, file_actions=actions), 0)
+    signal.alarm(0)
+    stdout.seek(0)
+    return os.waitstatus_to_exitcode(status), stdout.read()
 
 
-def byte_by_byte(text):
-    process = subprocess.Popen([program], stdin=subprocess.PIPE, stdout=subprocess.PIPE, bufsize=0)
-    for at in range(len(text)):
-        process.stdin.write(text[at : at + 1])
-    printed = process.communicate(timeout=20)[0]
-    return printed
+def from_files(command, texts):
+    with tempfile.TemporaryFile(buffering=0) as stdin, tempfile.TemporaryFile(buffering=0) as stdout:
+        for text in texts:
+            yield text, *run_on_files(stdin, stdout, command, text)
 
 
-def at_once(text):
-    done = subprocess.run([program], input=text, capture_output=True, timeout=20)
-    return done.stdout if done.returncode == 0 else b"status %d" % done.returncode
+# Single bytes at first, then larger pieces.
+def pieces(text):
+    ends = [*range(min(64, len(text))), *range(64, len(text), 97), len(text)]
+    return [text[start:end] for start, end in zip(ends, ends[1:])]
 
 
-cases = list(sheets.all_sheets())
-for text in cases:
-    compare("file", text, from_file(text))
-    if len(text) < 4096:
-        compare("pipe", text, byte_by_byte(text))
-long = sheets.SAMPLE * 200
-compare("long", long, from_file(long))
-chance = random.Random(7)
-for _ in range(mutations):
-    text = sheets.mutated(chance)
-    compare("mutated", text, at_once(text))
-print(f"{len(cases)} sheets from files and byte by byte, {mutations} mutated inputs, {failures} differences")
-sys.exit(1 if failures else 0)
+def unread(pipe):
+    return int.from_bytes(fcntl.ioctl(pipe, termios.FIONREAD, bytes(4)), sys.byteorder)
+
+
+# The next piece is written when the last one was read, so that no read gets two of them.
+def in_pieces(command, texts):
+    for text in texts:
+        process = subprocess.Popen(command, stdin=subprocess.PIPE, stdout=subprocess.PIPE, bufsize=0)
+        signal.alarm(LONGEST_RUN)
+        with contextlib.suppress(BrokenPipeError):  # a wrong program may end before it has read all
+            for piece in pieces(text):
+                process.stdin.write(piece)
+                while unread(process.stdin) and process.poll() is None:
+                    os.sched_yield()
+        printed, _ = process.communicate()
+        signal.alarm(0)
+        yield text, process.returncode, printed
+
+
+def long_texts():
+    yield sheets.SAMPLE * 200
+
+
+def mutated_texts():
+    chance = random.Random(7)
+    for _ in range(20000):
+        yield sheets.mutated(chance)
+
+
+# The ways to run the program: how, on what, and how many inputs that are.
+WAYS = {
+    "files": (from_files, sheets.all_sheets, 305),
+    "pieces": (in_pieces, sheets.all_sheets, 305),
+    "long": (from_files, long_texts, 1),
+    "mutated": (from_files, mutated_texts, 20000),
+}
+
+
+# How many inputs were compared, and those on which the program differs from the model.
+def compare(way, command, limit=None):
+    run, texts, _ = WAYS[way]
+    compared, differing = 0, []
+    for text, status, printed in run(command, itertools.islice(texts(), limit)):
+        compared += 1
+        if (status, printed) != (0, model.bench(text)):
+            differing.append(f"{way}: differs on {text[:80]!r}: status {status}, {printed[:60]!r}")
+    return compared, differing
+
+
+def test(program):
+    for way, (_, _, count) in WAYS.items():
+        compared, differing = compare(way, [program])
+        print(f"{way}: {compared} inputs, {len(differing)} differ")
+        yield from differing[:5]
+        if compared != count:
+            yield f"{way}: {count} inputs are wanted"
+
+
+# Wrong programs over the right one, $0: what is wrong, the way that must notice it, on how many inputs, and how the shell makes it so.
+WRONG = [
+    ("a refusal's number", "files", 305, '"$0" | sed "s/^  12$/  11/"'),
+    ("no last line feed", "files", 20, '"$0" | head -c -1'),
+    ("a line of the longest log", "files", 305, '"$0" | sed "2313s/.$/x/"'),
+    ("a sheet that goes on behind its end", "files", 305, 'head -c 1321 | "$0"'),
+    ("only the first read", "pieces", 20, 'dd bs=4096 count=1 2>/dev/null | "$0"'),
+    ("only the front of long input", "long", 1, 'head -c 51 | "$0"'),
+    ("bytes from 128 on as spaces", "mutated", 400, r"""tr '\200-\377' ' ' | "$0" """),
+    *(("the status", way, 20, '"$0"; exit 3') for way in WAYS),
+    *(("a signal", way, 20, '"$0"; kill -KILL $$') for way in WAYS),
+]
+
+
+def control(program):
+    for what, way, limit, script in WRONG:
+        compared, differing = compare(way, ["/bin/sh", "-c", script, program], limit)
+        print(f"{what}, {way}: {compared} inputs, {len(differing)} differ")
+        if not differing:
+            yield f"{what}: {way} does not notice it"
+
+
+def main():
+    program = os.path.abspath(sys.argv[1])
+    found = list(control(program) if sys.argv[2:] == ["--control"] else test(program))
+    for complaint in found:
+        print(complaint)
+    sys.exit(1 if found else 0)
+
+
+main()

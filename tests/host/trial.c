@@ -5,9 +5,10 @@
 #include "reference.h"
 
 #include <stdio.h>
+#include <stdlib.h>
 #include <string.h>
 
-enum { GUARD = 64, ROOM = GUARD + LONGEST + GUARD, SHOWN = 20 };
+enum { GUARD = 64, ROOM = GUARD + LONGEST + GUARD, MOST_FAILED = 20 };
 
 unsigned long passed, failed, met[256];
 
@@ -17,8 +18,9 @@ void record(bool good, const char *what) {
         return;
     }
     failed++;
-    if (failed <= SHOWN) {
-        printf("DIFFERS: %s\n", what);
+    printf("DIFFERS: %s\n", what);
+    if (failed == MOST_FAILED) {
+        exit(1);
     }
 }
 
@@ -84,9 +86,6 @@ static bool joins(const struct trial *trial, unsigned share) {
 }
 
 static void show(const struct trial *trial, unsigned got, unsigned wanted) {
-    if (failed >= SHOWN) {
-        return;
-    }
     printf("got %u, %u and not %u, %u from", got / 256, got % 256, wanted / 256, wanted % 256);
     for (int place = 0; place < NUMBERS; place++) {
         printf(" %lu", (unsigned long)trial->number[place]);

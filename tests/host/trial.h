@@ -20,7 +20,7 @@ struct trial {
 // How many comparisons came out well and ill, and how many calls met each refusal.
 extern unsigned long passed, failed, met[256];
 
-// Counts one comparison; the first that come out ill are printed.
+// Counts one comparison; one that comes out ill is printed, and the twentieth of them ends the program.
 void record(bool good, const char *what);
 
 // A number below the limit. The numbers look random and are the same in every run.

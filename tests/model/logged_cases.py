@@ -1,17 +1,14 @@
-# Regenerate crates/logged_calls/data/cases and crates/logged_calls/stdout: python3 tests/model/logged_cases.py
-# Makes cases of the logged call, and what the model says of each.
+# The cases of the logged call for the program logged_calls, and what the model says of each.
 # A case is a record of 320 bytes: the call's ten numbers as little-endian u32 in the order of its parameters, then as u16 the
 # lengths of the table, the scratch and the log that are lent, and from byte 46 the table. Scratch and log are lent filled, so
 # that what a call writes and what it leaves can both be seen. The answers are one line a record: refusal, share and count,
 # then the lent scratch and log after the call, whole where n is at most 2, and as a checksum each where it is larger.
 import random
 import struct
-from collections import Counter, namedtuple
-from pathlib import Path
+from collections import namedtuple
 
 import model
 
-CRATE = Path(__file__).resolve().parents[2] / "crates" / "logged_calls"
 TOP = 2**32 - 1
 # What the program fills scratch and log with, and the most that it can lend.
 FILLED_BYTE, FILLED_ENTRY = 165, 42405
@@ -24,7 +21,7 @@ OUTPUTS = ("s1", "s2")
 # A call: its numbers, its table, and the lengths of scratch and log.
 Call = namedtuple("Call", "case table scratch log")
 
-chance = random.Random(1)
+chance = random.Random()
 
 
 def below(width):
@@ -201,18 +198,8 @@ KINDS = (
 )
 
 
-def main():
-    records, lines = [], []
+# The same cases in every run.
+def cases():
+    chance.seed(1)
     for kind in KINDS:
-        calls = list(kind())
-        answers = [answer(call) for call in calls]
-        records += [record(call) for call in calls]
-        lines += [" ".join(map(str, numbers)) for numbers in answers]
-        print(kind.__name__, len(calls), sorted(Counter(numbers[0] for numbers in answers).items()))
-    print("all", len(records))
-    (CRATE / "data").mkdir(parents=True, exist_ok=True)
-    (CRATE / "data" / "cases").write_bytes(b"".join(records))
-    (CRATE / "stdout").write_text("".join(line + "\n" for line in lines))
-
-
-main()
+        yield from kind()

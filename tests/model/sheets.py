@@ -3,6 +3,7 @@ import random
 
 import model
 
+
 def line(*numbers):
     return b"".join(b"%4d" % number for number in numbers) + b"\n"
 
@@ -33,7 +34,11 @@ TABLE_A = [2, 0, 3, 1]
 P2 = model.Case(2, 2, 2, 0, 1, 2, 3, 0, 2, 0)
 
 # What may stand in a field's four columns instead of a number; each makes the sheet malformed.
-BAD_FIELDS = [b"    ", b"  00", b"  01", b"0000", b"  -1", b"  +1", b"   \t", b"\t  1", b"   \r", b"  1\r", b"   \x00", b"\x00  1", b"1   ", b" 1  ", b"1  1", b" 1 1", b" 256", b" 999", b"1000", b"9999", b"  1a", b"   .", b"   /", b"   :", b"   \xb1"]
+BAD_FIELDS = [
+    b"    ", b"  00", b"  01", b"0000", b"  -1", b"  +1", b"   \t", b"\t  1", b"   \r", b"  1\r", b"   \x00",
+    b"\x00  1", b"1   ", b" 1  ", b"1  1", b" 1 1", b" 256", b" 999", b"1000", b"9999", b"  1a", b"   .", b"   /",
+    b"   :", b"   \xb1",
+]
 
 
 def fields_of(text):

@@ -1,15 +1,11 @@
-# Regenerate crates/small_calls/data/cases and crates/small_calls/stdout: python3 tests/model/small_cases.py
-# Makes the cases of split, join, key addition and the linear layer, and what the model says of each.
+# The cases of split, join, key addition and the linear layer for the program small_calls, and what the model says of each.
 # A case is a record of 64 bytes: byte 0 the call, from byte 4 its numbers as little-endian u32 in the order of the call's
 # parameters, byte 40 the number of rows, from byte 41 the rows. The answers are one line a record.
 import random
 import struct
-from collections import Counter
-from pathlib import Path
 
 import model
 
-CRATE = Path(__file__).resolve().parents[2] / "crates" / "small_calls"
 SPLIT, JOIN, ADD_KEY, LINEAR_LAYER = range(4)
 CALLS = (model.split, model.join, model.add_key, model.linear_layer)
 # How many numbers of the input width each call takes.
@@ -20,7 +16,7 @@ WIDE_NUMBERS = (256, 258, 2**16, TOP)
 # No widths; some become one when cut to 8 or 16 bits, and 32 to 40 do as the distance of a shift.
 NO_WIDTHS = (0, 9, 16, 31, 32, 33, 40, 257, 264, 2**16 + 3, TOP - 254, TOP)
 
-chance = random.Random(1)
+chance = random.Random()
 
 
 def below(width):
@@ -187,18 +183,8 @@ KINDS = (
 )
 
 
-def main():
-    records, lines = [], []
+# The same cases in every run.
+def cases():
+    chance.seed(1)
     for kind in KINDS:
-        cases = list(kind())
-        answers = [answer(case) for case in cases]
-        records += [record(case) for case in cases]
-        lines += [" ".join(map(str, numbers)) for numbers in answers]
-        print(kind.__name__, len(cases), sorted(Counter(numbers[0] for numbers in answers).items()))
-    print("all", len(records))
-    (CRATE / "data").mkdir(parents=True, exist_ok=True)
-    (CRATE / "data" / "cases").write_bytes(b"".join(records))
-    (CRATE / "stdout").write_text("".join(line + "\n" for line in lines))
-
-
-main()
+        yield from kind()

@@ -1,0 +1,111 @@
+// The header against the archive, in C and in C++: the call's type, each number of the enum, the scratch length, the names of the
+// parameters, and the helpers. Prints a line for each that is wrong; exits with 1 if one is. Compile it with CALL_BY_NAME, a call whose
+// arguments are the names of the parameters in the header's order.
+#include "cippazhey.h"
+#include "cippazhey.h" // twice, for its guard
+
+#include <stdio.h>
+
+// The type that the archive's call has: a header that says another does not compile.
+typedef uint16_t plain_call(uint32_t, uint32_t, uint32_t, uint32_t, uint32_t, uint32_t, uint32_t, uint32_t, uint32_t, uint32_t,
+                            const uint8_t *, size_t, uint8_t *, size_t);
+static plain_call *const typed_call = cippazhey_plain_call;
+
+enum { METHOD, N, M, X0, R1, R2, S1, S2, R3, B, NUMBERS };
+
+// A call at n = 3, m = 1: its result, its numbers in the order above, its table, and the lengths of table and scratch.
+struct trial {
+    unsigned refusal, share;
+    uint32_t number[NUMBERS];
+    const uint8_t *table;
+    size_t table_length, scratch_length;
+};
+
+static const uint8_t balanced[] = {0, 0, 1, 0, 1, 1, 0, 1};
+static const uint8_t entry_2[] = {0, 0, 1, 0, 1, 1, 0, 2};
+static const uint8_t unbalanced[] = {0, 0, 1, 0, 1, 1, 0, 0};
+static const struct trial trials[] = {
+    {CIPPAZHEY_ACCEPTED, 0, {3, 3, 1, 6, 1, 5, 1, 0, 4, 0}, balanced, 8, 8},
+    {CIPPAZHEY_ACCEPTED, 1, {2, 3, 1, 6, 1, 3, 0, 0, 3, 0}, balanced, 8, 8},
+    {CIPPAZHEY_REFUSED_METHOD, 0, {4, 3, 1, 6, 1, 5, 1, 0, 4, 1}, balanced, 8, 8},
+    {CIPPAZHEY_REFUSED_INPUT_WIDTH, 0, {3, 9, 1, 6, 1, 5, 1, 0, 4, 1}, balanced, 8, 8},
+    {CIPPAZHEY_REFUSED_OUTPUT_WIDTH, 0, {3, 3, 4, 6, 1, 5, 1, 0, 4, 1}, balanced, 8, 8},
+    {CIPPAZHEY_REFUSED_TABLE_LENGTH, 0, {3, 3, 1, 6, 1, 5, 1, 0, 4, 1}, balanced, 7, 8},
+    {CIPPAZHEY_REFUSED_TABLE_ENTRY, 0, {3, 3, 1, 6, 1, 5, 1, 0, 4, 1}, entry_2, 8, 8},
+    {CIPPAZHEY_REFUSED_UNBALANCED_TABLE, 0, {3, 3, 1, 6, 1, 5, 1, 0, 4, 1}, unbalanced, 8, 8},
+    {CIPPAZHEY_REFUSED_INPUT_SHARE, 0, {3, 3, 1, 8, 1, 5, 1, 0, 4, 1}, balanced, 8, 8},
+    {CIPPAZHEY_REFUSED_OUTPUT_MASK, 0, {3, 3, 1, 6, 1, 5, 2, 0, 4, 1}, balanced, 8, 8},
+    {CIPPAZHEY_REFUSED_BIT, 0, {3, 3, 1, 6, 1, 5, 1, 0, 4, 2}, balanced, 8, 8},
+    {CIPPAZHEY_REFUSED_SCRATCH_LENGTH, 0, {3, 3, 1, 6, 1, 5, 1, 0, 4, 1}, balanced, 8, 7},
+};
+enum { TRIALS = sizeof trials / sizeof *trials };
+
+static int wrong;
+
+static void hold(int right, const char *what, int which) {
+    if (!right) {
+        printf("wrong: %s %d\n", what, which);
+        wrong = 1;
+    }
+}
+
+// Passes each value for the parameter that the header gives its name to.
+static uint16_t by_name(const struct trial *trial) {
+    const uint32_t *number = trial->number;
+    uint32_t method = number[METHOD], n = number[N], m = number[M], x0 = number[X0], r1 = number[R1], r2 = number[R2];
+    uint32_t s1 = number[S1], s2 = number[S2], r3 = number[R3], b = number[B];
+    const uint8_t *table = trial->table;
+    size_t table_length = trial->table_length, scratch_length = trial->scratch_length;
+    uint8_t scratch[8] = {0};
+    return CALL_BY_NAME;
+}
+
+static void numbers_of_the_enum(void) {
+    for (int each = 0; each < TRIALS; each++) {
+        uint16_t result = by_name(&trials[each]);
+        hold(result == trials[each].refusal * 256 + trials[each].share, "result of trial", each);
+        hold(cippazhey_refusal_of(result) == trials[each].refusal, "refusal of trial", each);
+        hold(cippazhey_share_of(result) == trials[each].share, "share of trial", each);
+    }
+}
+
+static int alike(int place, int other) {
+    return (place >= X0 && other <= R2) || (place == S1 && other == S2);
+}
+
+// The trials tell the parameters apart: some trial's result changes when two of its numbers are exchanged. Only x0, r1 and r2 are alike
+// to the call, and s1 and s2: no result tells them apart, so that their names are compared as text.
+static void places_of_the_numbers(void) {
+    for (int place = 0; place < NUMBERS; place++) {
+        for (int other = place + 1; other < NUMBERS; other++) {
+            int differ = 0;
+            for (int each = 0; each < TRIALS; each++) {
+                struct trial exchanged = trials[each];
+                exchanged.number[place] = trials[each].number[other];
+                exchanged.number[other] = trials[each].number[place];
+                differ += by_name(&exchanged) != by_name(&trials[each]);
+            }
+            hold((differ > 0) == !alike(place, other), "exchange of two numbers, the first", place);
+        }
+    }
+}
+
+// At n = m = 8, with x = 90, entry 90 ^ 255 and masks 1 and 2.
+static void stated_scratch_length(void) {
+    static uint8_t table[256], scratch[CIPPAZHEY_SCRATCH_LENGTH];
+    for (int entry = 0; entry < 256; entry++) {
+        table[entry] = (uint8_t)(255 - entry);
+    }
+    uint16_t enough = typed_call(3, 8, 8, 90 ^ 17 ^ 34, 17, 34, 1, 2, 200, 1, table, 256, scratch, CIPPAZHEY_SCRATCH_LENGTH);
+    uint16_t less = typed_call(3, 8, 8, 90 ^ 17 ^ 34, 17, 34, 1, 2, 200, 1, table, 256, scratch, CIPPAZHEY_SCRATCH_LENGTH - 1);
+    hold(enough == 166, "result at the stated scratch length", enough);
+    hold(cippazhey_share_of(enough) == 166, "share at the stated scratch length", cippazhey_share_of(enough));
+    hold(cippazhey_refusal_of(less) == CIPPAZHEY_REFUSED_SCRATCH_LENGTH, "refusal below the stated scratch length", less);
+}
+
+int main(void) {
+    numbers_of_the_enum();
+    places_of_the_numbers();
+    stated_scratch_length();
+    return wrong;
+}

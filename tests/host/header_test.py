@@ -1,0 +1,125 @@
+# Holds the C header to the archive and to the Rattle source. Run: python3 tests/host/header_test.py TEST ARCHIVE, where TEST is
+#   declaration   the declaration is the one that the source makes: the types, and the parameters' names in their order;
+#   c, c++        tests/host/header_test.c compiles with the header in that language, and passes;
+#   control       edited copies of the header, each of which those tests must notice.
+# The status is 0 if the test passes, and 1 otherwise, with what it found.
+import itertools
+import re
+import shutil
+import subprocess
+import sys
+import tempfile
+from pathlib import Path
+
+ROOT = Path(__file__).resolve().parents[2]
+sys.path.insert(0, str(ROOT / "tests" / "model"))
+from edits import edited, exchanged
+
+HEADER = ROOT / "include" / "cippazhey.h"
+SOURCE = ROOT / "crates" / "cippazhey" / "src" / "lib.rt"
+PROGRAM = ROOT / "tests" / "host" / "header_test.c"
+COMPILERS = {"c": ["cc", "-std=c99", "-x", "c"], "c++": ["c++", "-std=c++11", "-x", "c++"]}
+WARNINGS = ["-Wall", "-Wextra", "-Wpedantic", "-Werror"]
+# What a parameter of the source is in C. A slice is a pointer and a length.
+IN_C = {
+    "u32": "uint32_t {0}",
+    "&[u8]": "const uint8_t *{0}, size_t {0}_length",
+    "&mut [u8]": "uint8_t *{0}, size_t {0}_length",
+}
+
+
+def declared(header):
+    found = re.findall(r"^\w+ cippazhey_plain_call\([^)]*\);", header, re.MULTILINE)
+    return " ".join(" ".join(found).split())
+
+
+# The declaration that the source makes.
+def wanted_declaration(source):
+    [parameters] = re.findall(r'pub extern "C" fn cippazhey_plain_call\(([^)]*)\) -> u16', source)
+    in_c = [IN_C[kind].format(name) for name, kind in re.findall(r"(\w+): ([^,]+),", parameters)]
+    return f"uint16_t cippazhey_plain_call({', '.join(in_c)});"
+
+
+def test_declaration(header):
+    got, wanted = declared(header), wanted_declaration(SOURCE.read_text())
+    return None if got == wanted else f"declared: {got}\nand not:  {wanted}"
+
+
+# What a step that fails has to say, or None.
+def complaint(*command):
+    done = subprocess.run(command, stdout=subprocess.PIPE, stderr=subprocess.STDOUT, text=True, timeout=60)
+    return done.stdout + f"status {done.returncode}" if done.returncode else None
+
+
+def test_compiled(language, header, archive):
+    names = ", ".join(re.findall(r"(\w+)[,)]", declared(header)))
+    with tempfile.TemporaryDirectory() as folder:
+        (Path(folder) / HEADER.name).write_text(header)
+        program = f"{folder}/header_test"
+        call = f"-DCALL_BY_NAME=cippazhey_plain_call({names})"
+        built = complaint(*COMPILERS[language], *WARNINGS, f"-I{folder}", call, PROGRAM, "-x", "none", archive, "-o", program)
+        return built or complaint(program)
+
+
+def test(kind, header, archive):
+    return test_declaration(header) if kind == "declaration" else test_compiled(kind, header, archive)
+
+
+DECLARATION, C, CPP = ["declaration"], ["c"], ["c++"]
+EDITS = [
+    (C, "#define CIPPAZHEY_SCRATCH_LENGTH 256", "#define CIPPAZHEY_SCRATCH_LENGTH 255"),
+    (C, "#define CIPPAZHEY_SCRATCH_LENGTH 256", "#define CIPPAZHEY_SCRATCH_LENGTH 257"),
+    (C, "#define CIPPAZHEY_SCRATCH_LENGTH 256", "#define CIPPAZHEY_SCRATCH_LENGTH 65536"),
+    (C, "CIPPAZHEY_ACCEPTED = 0", "CIPPAZHEY_ACCEPTED = 1"),
+    (DECLARATION + C + CPP, "uint16_t cippazhey_plain_call", "uint32_t cippazhey_plain_call"),
+    (DECLARATION + C + CPP, "size_t scratch_length", "uint32_t scratch_length"),
+    (DECLARATION + C + CPP, "size_t table_length", "uint32_t table_length"),
+    (DECLARATION + C + CPP, "const uint8_t *table", "uint8_t *table"),
+    (DECLARATION + C, "uint8_t *scratch", "const uint8_t *scratch"),
+    (DECLARATION + C, "uint32_t b,", "uint8_t b,"),
+    (DECLARATION + C, "uint32_t b,", "uint32_t bit,"),
+    (DECLARATION + C, "uint32_t b,", ""),
+    (DECLARATION + C, "cippazhey_plain_call(", "cippazhey_call("),
+    (C + CPP, "return result / 256u", "return result / 128u"),
+    (C + CPP, "return (uint8_t)(result % 256u)", "return (uint8_t)(result % 128u)"),
+    (C, "static inline unsigned", "inline unsigned"),
+    (C, "#define CIPPAZHEY_H\n", ""),
+    (C, "#include <stdint.h>", ""),
+    (C, "#include <stddef.h>", ""),
+    (CPP, 'extern "C" {', 'extern "C++" {'),
+]
+
+
+# The names that a C user reads: every two of the enum's and of the numbers'. The result tells only some of the numbers apart.
+def exchanges(header):
+    constants = re.findall(r"CIPPAZHEY_REFUSED_\w+", header)
+    for pair in zip(constants, constants[1:]):
+        yield C, *pair
+    numbers = re.findall(r"uint32_t \w+,", declared(header))
+    for pair in itertools.combinations(numbers, 2):
+        yield DECLARATION, *pair
+    for pair in (("n", "m"), ("r3", "b"), ("method", "n"), ("m", "x0"), ("r2", "s1"), ("s2", "r3")):
+        yield C, *(f"uint32_t {name}," for name in pair)
+    yield DECLARATION + C, "table_length", "scratch_length"
+
+
+# The edits that a test does not notice.
+def unnoticed(header, archive):
+    kinds = [kind for kind in ("declaration", *COMPILERS) if kind not in COMPILERS or shutil.which(COMPILERS[kind][0])]
+    yield from (f"the header itself fails {kind}" for kind in kinds if test(kind, header, archive))
+    copies = [(noticing, f"{old!r} became {new!r}", edited(header, old, new)) for noticing, old, new in EDITS]
+    copies += [(noticing, f"{one!r} and {other!r} exchanged", exchanged(header, one, other)) for noticing, one, other in exchanges(header)]
+    for noticing, what, copy in copies:
+        yield from (f"{what}: {kind} passes" for kind in noticing if kind in kinds and test(kind, copy, archive) is None)
+    print(f"{len(copies)} edits of the header")
+
+
+def main():
+    kind, archive = sys.argv[1:]
+    header = HEADER.read_text()
+    found = "\n".join(unnoticed(header, archive)) if kind == "control" else test(kind, header, archive)
+    print(found or "as it must be")
+    sys.exit(1 if found else 0)
+
+
+main()

@@ -1,0 +1,158 @@
+# The control of tests/host/plain_call_test.c: wrong calls, each of which the group named beside it must notice. A wrong call is the
+# reference with an edit, exported in the place of the archive's call; the reference that it is compared with may have the edit too, and
+# then the scope's figures must notice it. Run: python3 tests/host/wrong_calls.py (status 0 if the unedited reference passes whole and
+# every wrong call is noticed, 1 otherwise, with a line for each that is not).
+import subprocess
+import sys
+import tempfile
+from pathlib import Path
+
+HOST = Path(__file__).resolve().parent
+sys.path.insert(0, str(HOST.parent / "model"))
+from edits import edited
+
+COMPILE = ["cc", "-std=c99", "-O2", f"-I{HOST}", f"-I{HOST.parents[1] / 'include'}"]
+# The copy that is called stands beside the reference that it is compared with.
+RENAMED = "-Dreference_plain_call=wrong_plain_call"
+
+# The reference's lines that the edits put something before or after.
+FIRST_LINE = "    unsigned number = refusal(call, scratch_length);\n"
+TABLE_CHECKED = "    unsigned number = table_refusal(call);\n"
+LAST_LINE = "    return share;\n"
+
+
+def before(line, *added):
+    return line, "".join(f"    {each}\n" for each in added) + line
+
+
+# A check that comes before the one that it should come after.
+def check_before(line, condition, number):
+    return before(line, f"if ({condition}) {{ return {number}; }}")
+
+
+NUMBERS = ("method", "n", "m", "x0", "r1", "r2", "s1", "s2", "r3", "b")
+BENCH_SHEET = {
+    "wrong share, method 2": ("return scratch[call.r3];", "return scratch[call.r3] ^ 1;"),
+    "the other register": ("return registers[call.b];", "return registers[1 - call.b];"),
+    "one fixed share": (LAST_LINE, "    return 2;\n"),
+    "all refused": (FIRST_LINE, "    unsigned number = 2;\n"),
+    "unbalanced tables accepted": ("            return false;", "            return true;"),
+    "scratch untouched": before("    uint8_t share = call", "uint8_t other[256];", "scratch = other;"),
+    "b ignored": before("    uint8_t registers[2]", "call.b = 0;"),
+    "r3 ignored": before("    uint32_t r_prime", "call.r3 = 0;"),
+    "the second mask left out": ("(call.table[place] ^ call.s1) ^ call.s2", "call.table[place] ^ call.s1"),
+    "a byte past 2^n": before(LAST_LINE, "scratch[(size_t)1 << call.n] ^= 1;"),
+    "the byte before scratch": before(LAST_LINE, "scratch[-1] ^= 1;"),
+    "the byte behind scratch": before(LAST_LINE, "scratch[scratch_length] ^= 1;"),
+    "a table entry": before(LAST_LINE, "((uint8_t *)call.table)[0] ^= 1;"),
+    "the byte before the table": before(LAST_LINE, "((uint8_t *)call.table)[-1] ^= 1;"),
+    "the byte behind the table": before(LAST_LINE, "((uint8_t *)call.table)[call.table_length] ^= 1;"),
+}
+NEIGHBOURS = {
+    "10 for 11": ("return 11;", "return 10;"),
+    "13 at 2^n": ("scratch_length < (size_t)1 << call.n", "scratch_length <= (size_t)1 << call.n"),
+    "b = 1 under method 2": ("call.method == 2 && call.b > 0", "call.method == 2 && call.b > 1"),
+    "long tables accepted": ("call.table_length != entries", "call.table_length < entries"),
+    "m up to 8": ("call.m > call.n", "call.m > 8"),
+    "x0 up to 255": ("call.x0 >= entries", "call.x0 >= 256"),
+    "2^m allowed in the table": ("call.table[place] >= values", "call.table[place] > values"),
+    "a share beside the refusal": ("number * 256", "number * 256 + 1"),
+    "scratch written on refusal": before(
+        "    if (number != 0) {\n        return (uint16_t)", "if (number != 0 && scratch_length > 0) { scratch[0] ^= 1; }"
+    ),
+    "widths as distances of a shift": before(FIRST_LINE, "call.n &= 31;"),
+    **{f"{name} cut to 8 bits": before(FIRST_LINE, f"call.{name} &= 255;") for name in NUMBERS},
+    **{f"{name} cut to 16 bits": before(FIRST_LINE, f"call.{name} &= 65535;") for name in ("method", "n", "m", "x0", "b")},
+}
+SEVERAL_FAULTS = {
+    "3 before 2": check_before("    if (call.method != 2", "call.n < 1 || call.n > 8", 3),
+    "4 before 3": check_before("    if (call.n < 1", "call.m < 1 || (call.m > call.n && call.n > 0)", 4),
+    "5 before 4": check_before("    if (call.m < 1", "call.table_length != (size_t)1 << call.n", 5),
+    "7 before 6": check_before(
+        "    for (size_t place = 0; place < entries; place++) {\n        if (call.table[place] >=", "!balanced(call.table, entries, values)", 7
+    ),
+    "6 before 5": check_before("    if (call.table_length", "call.table[0] >= values", 6),
+    "11 before 10": check_before("    if (call.x0 >=", "call.s1 >= values || call.s2 >= values", 11),
+    "12 before 11": check_before("    if (call.s1 >=", "call.b > 1", 12),
+    "13 before 12": check_before("    number = mask_refusal(call);\n", "scratch_length < (size_t)1 << call.n", 13),
+    "10 before 7": (TABLE_CHECKED, TABLE_CHECKED + "    if (number == 7 && mask_refusal(call) == 10) { return 10; }\n"),
+}
+LONG_BUFFERS = {
+    "table length cut to 8 bits": before(FIRST_LINE, "call.table_length &= 255;"),
+    "table length cut to 16 bits": before(FIRST_LINE, "call.table_length &= 65535;"),
+    "scratch length cut to 8 bits": before(FIRST_LINE, "scratch_length &= 255;"),
+    "scratch length cut to 16 bits": before(FIRST_LINE, "scratch_length &= 65535;"),
+    "all of scratch written": before("    uint8_t share = call", "for (size_t at = 0; at < scratch_length; at++) { scratch[at] = 0; }"),
+}
+SMALL_WIDTHS = {
+    "one choice of masks": before(LAST_LINE, "share ^= call.n == 2 && call.r1 == 3 && call.r2 == 1 && call.r3 == 2 && call.s1 == 1;"),
+    "one table": before(FIRST_LINE, "if (call.n == 2 && call.table[0] == 1 && call.table[1] == 0 && call.table[2] == 3) { return 0; }"),
+    "only the count of 0": ("value < values; value++", "value < 1; value++"),
+    "method 2 where b is 0": before(FIRST_LINE, "call.method = call.method == 3 && call.b == 0 ? 2 : call.method;"),
+}
+RANDOM_CALLS = {
+    "one x0 at one width": before(LAST_LINE, "share ^= call.n == 7 && call.x0 == 77;"),
+    "one byte of a long scratch": before(LAST_LINE, "scratch[scratch_length > 500 ? 500 : 0] ^= scratch_length > 500;"),
+}
+WRONG_CALLS = {
+    "bench_sheet": BENCH_SHEET,
+    "neighbours_of_refusals": NEIGHBOURS,
+    "several_faults_at_once": SEVERAL_FAULTS,
+    "long_buffers": LONG_BUFFERS,
+    "small_widths_whole": SMALL_WIDTHS,
+    "random_calls": RANDOM_CALLS,
+}
+# Those that the reference is given too: the scope's figures, and the share joined with its masks, must notice them.
+COMMON_FAULTS = {
+    "bench_sheet": {"scratch cleared": before("    return registers[call.b];", "scratch[call.r3] = 0;")},
+    "neighbours_of_refusals": {name: NEIGHBOURS[name] for name in ("10 for 11", "scratch written on refusal")},
+    "several_faults_at_once": {name: SEVERAL_FAULTS[name] for name in ("13 before 12",)},
+    "long_buffers": {name: LONG_BUFFERS[name] for name in ("table length cut to 16 bits",)},
+    "small_widths_whole": {name: SMALL_WIDTHS[name] for name in ("only the count of 0",)},
+    "random_calls": {name: RANDOM_CALLS[name] for name in ("one x0 at one width",)},
+}
+
+
+def build(*words):
+    subprocess.run([*COMPILE, *words], check=True, timeout=60)
+
+
+def build_objects(folder):
+    for name in ("plain_call_test", "trial", "reference"):
+        build("-c", HOST / f"{name}.c", "-o", folder / f"{name}.o")
+    build(RENAMED, "-c", HOST / "wrong_call.c", "-o", folder / "wrong_call.o")
+
+
+# The test program over a copy of the reference, run on a group, or on all. In a common fault the copy is also what it is compared with.
+def run(folder, copy, *group, common=False):
+    (folder / "copy.c").write_text(copy)
+    build(RENAMED, "-c", folder / "copy.c", "-o", folder / "copy.o")
+    compared = folder / ("copy.c" if common else "reference.o")
+    objects = [folder / f"{name}.o" for name in ("plain_call_test", "trial", "wrong_call", "copy")]
+    build(*objects, compared, "-o", folder / "test")
+    return subprocess.run([folder / "test", *group], capture_output=True, text=True, timeout=60)
+
+
+def complaints(folder):
+    build_objects(folder)
+    reference = (HOST / "reference.c").read_text()
+    if run(folder, reference).returncode != 0:
+        yield "the reference itself does not pass"
+    for common, groups in ((False, WRONG_CALLS), (True, COMMON_FAULTS)):
+        for group, calls in groups.items():
+            for name, (old, new) in calls.items():
+                done = run(folder, edited(reference, old, new), group, common=common)
+                if done.returncode != 1 or "DIFFERS: " not in done.stdout:
+                    yield f"{name}, {common=}: {group} does not notice it\n{done.stdout}"
+        print(sum(map(len, groups.values())), "common faults" if common else "wrong calls")
+
+
+def main():
+    with tempfile.TemporaryDirectory() as folder:
+        found = list(complaints(Path(folder)))
+    for complaint in found:
+        print(complaint)
+    sys.exit(1 if found else 0)
+
+
+main()

@@ -1,0 +1,43 @@
+# The scope document's own figures, as it prints them.
+
+# The program's sample, whole.
+SAMPLE_INPUT = b"""\
+   2   1   1   0   1   0   0   1   1   0
+   1
+   0
+"""
+SAMPLE_OUTPUT = b"""\
+   0  10   0
+   1   1   1
+   2   2   0
+   3   3   0
+   4   4   1
+   5   5   1
+   6   6   0
+   7   7   0
+   8   8   0
+   9   9   0
+  10  11   0
+  11  12   1
+  12  13   1
+  13  14   0
+  14   8   1
+  15   9   1
+  16  11   1
+  17  12   0
+  18  13   0
+  19  14   1
+  20   5   1
+  21  15   1
+   0   1  22
+"""
+TABLE_A = [2, 0, 3, 1]
+
+# The kinds of a log in order, for each method: the head, what each number a adds, the end.
+KINDS = {
+    2: ([10, 1, 2, 3, 4, 5, 6, 7], [8, 9, 11, 12, 13, 14], [5, 15]),
+    3: ([11, 1, 2, 3, 4, 6, 5, 18], [7, 8, 9, 17, 10, 12, 13, 14, 15], [6, 16]),
+}
+
+# The log's length, for each method and n.
+LENGTHS = {2: {1: 22, 2: 34, 8: 1546}, 3: {1: 28, 2: 46, 8: 2314}}

@@ -1,0 +1,101 @@
+# The cases and expected outputs that the programs' crates store, as the model makes them. Run: python3 tests/model/stored.py writes them;
+# with --check it compares them instead, after showing that it notices a change of each (status 0 if all are as made, 1 otherwise).
+import struct
+import sys
+import tempfile
+from pathlib import Path
+
+import document
+import logged_cases
+import model
+import sbox
+import sheets
+import small_cases
+
+CRATES = Path(__file__).resolve().parents[2] / "crates"
+
+
+# The records of a test program's cases, and its answers, a line of numbers each.
+def program_files(name, module):
+    cases = list(module.cases())
+    lines = [" ".join(map(str, module.answer(case))) + "\n" for case in cases]
+    return {f"{name}/data/cases": b"".join(map(module.record, cases)), f"{name}/stdout": "".join(lines).encode()}
+
+
+# A record is a sheet's length as two little-endian bytes, and its bytes.
+def sheet_files():
+    texts = list(sheets.all_sheets())
+    records = [struct.pack("<H", len(text)) + text for text in texts]
+    return {"bench_sheets/data/cases": b"".join(records), "bench_sheets/stdout": b"".join(map(model.bench, texts))}
+
+
+# What each file below crates/ must hold.
+def made_files():
+    return {
+        **program_files("small_calls", small_cases),
+        **program_files("logged_calls", logged_cases),
+        **sheet_files(),
+        "bench/stdin": document.SAMPLE_INPUT,
+        "bench/stdout": model.bench(document.SAMPLE_INPUT),
+        "sbox_print/stdout": sbox.printed(),
+    }
+
+
+# What rt runs the programs on, and what it holds them to.
+def stored_files(crates):
+    paths = [path for pattern in ("args", "stdin", "stdout", "data/**/*") for path in crates.glob(f"*/{pattern}") if path.is_file()]
+    return {str(path.relative_to(crates)): path.read_bytes() for path in paths}
+
+
+def write(crates, files):
+    for name, content in files.items():
+        (crates / name).parent.mkdir(parents=True, exist_ok=True)
+        (crates / name).write_bytes(content)
+
+
+# The files that differ, are missing, or are made by no one.
+def differing(crates, made):
+    stored = stored_files(crates)
+    return sorted(name for name in made | stored if stored.get(name) != made.get(name))
+
+
+# What may befall a file: a byte at either end or in the middle, a byte more or less, or all of it.
+def changes(content):
+    for place in (0, len(content) // 2, len(content) - 1):
+        yield content[:place] + bytes([content[place] ^ 1]) + content[place + 1 :]
+    yield from (content + b"\n", content[:-1], b"")
+
+
+# The control: the changes that the comparison does not notice, each made in a copy.
+def unnoticed_changes(made):
+    with tempfile.TemporaryDirectory() as folder:
+        crates = Path(folder)
+        write(crates, made)
+        if differing(crates, made):
+            yield "the copy itself"
+        for name, content in made.items():
+            for changed in changes(content):
+                write(crates, {name: changed})
+                if differing(crates, made) != [name]:
+                    yield name
+            (crates / name).unlink()
+            if differing(crates, made) != [name]:
+                yield f"{name}, missing"
+            write(crates, {name: content})
+        write(crates, {"bench/data/stray": b""})
+        if differing(crates, made) != ["bench/data/stray"]:
+            yield "a file that no one makes"
+
+
+def main():
+    made = made_files()
+    if sys.argv[1:] != ["--check"]:
+        write(CRATES, made)
+        return
+    complaints = [f"a change goes unnoticed: {name}" for name in unnoticed_changes(made)]
+    complaints += [f"not as the model makes it: crates/{name}" for name in differing(CRATES, made)]
+    print(*complaints, f"{len(made)} files, {len(complaints)} complaints", sep="\n")
+    sys.exit(1 if complaints else 0)
+
+
+main()
