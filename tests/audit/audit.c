@@ -1,14 +1,17 @@
-// Audits the machine code of one call: `audit SUBJECT METHOD [linear]`. Exhaustive at small widths, then linear at n = m = 8, or linear alone.
-// It exits with 0 where nothing leaks, with 1 where something does, and with 2 where it can't tell: a wrong answer, control flow
-// that depends on the numbers, memory written from no register, or code at n = m = 8 that no small width runs.
+// Audits the machine code of one call: `audit OPERANDS SUBJECT METHOD [linear]`. Exhaustive at small widths, then linear at n = m = 8, or
+// linear alone. OPERANDS is the table that operands.py makes of this program's listing.
+// It exits with 0 where nothing leaks, with 1 where something does, with 2 where it can't tell, and says why: a wrong answer, control flow
+// that depends on the numbers, an instruction that is not known, code at n = m = 8 that no small width runs. 3 is for wrong usage.
+#include "operands.h"
 #include "probes.h"
 #include "subjects.h"
 
+#include <stdbool.h>
 #include <stdio.h>
 #include <stdlib.h>
 #include <string.h>
 
-enum { SILENT = 0, LEAKS = 1, UNKNOWN = 2, LONGEST = 256, RANDOM_INPUTS = 4, RANDOM_CHOICES = 24 };
+enum { SILENT = 0, LEAKS = 1, UNKNOWN = 2, WRONG_USAGE = 3, LONGEST = 256, RANDOM_INPUTS = 4, RANDOM_CHOICES = 24 };
 
 static uint8_t table[LONGEST], scratch[LONGEST];
 static uint16_t entries[2400];
@@ -36,21 +39,21 @@ struct study {
     size_t (*leaking)(const struct probes *probes, size_t inputs);
 };
 
-// Steps through one call; whether it took the usual way and its answer is the table's entry under both masks.
+// Steps through one call; whether it can be judged and its answer is the table's entry under both masks.
 static bool one_call(struct trace *trace, struct widths w, uint32_t x, struct choice c) {
     size_t length = (size_t)1 << w.n, log_length = 10 + (w.method == 2 ? 6 : 9) * length;
     struct call call = {subject->code,
                         {w.method, w.n, w.m, x ^ c.r1 ^ c.r2, c.r1, c.r2, c.s1, c.s2, c.r3, c.b, (uintptr_t)table, length,
                          (uintptr_t)scratch, length, (uintptr_t)entries, log_length},
-                        scratch, length, subject->logged ? entries : NULL, log_length};
+                        {{"table", table, length}, {"scratch", scratch, length}, {"log", entries, 2 * log_length}}};
     uint64_t result;
     memset(scratch, 0, sizeof scratch);
     memset(entries, 0, sizeof entries);
-    bool usual = step_through(trace, &call, &result);
+    const char *trouble = step_through(trace, &call, &result);
     uint32_t share = subject->logged ? entries[log_length - 1] & 255u : (uint32_t)result & 65535u;
-    if (usual && share == (table[x] ^ c.s1 ^ c.s2)) return true;
-    printf("    %s: x = %u, r1 = %u, r2 = %u, r3 = %u, s1 = %u, s2 = %u, b = %u\n", usual ? "wrong answer" : "control flow differs", x, c.r1,
-           c.r2, c.r3, c.s1, c.s2, c.b);
+    if (!trouble && share != (table[x] ^ c.s1 ^ c.s2)) trouble = "wrong answer";
+    if (!trouble) return true;
+    printf("    %s: x = %u, r1 = %u, r2 = %u, r3 = %u, s1 = %u, s2 = %u, b = %u\n", trouble, x, c.r1, c.r2, c.r3, c.s1, c.s2, c.b);
     return false;
 }
 
@@ -64,9 +67,8 @@ static int carry_out(const struct study *study, struct trace *trace) {
         known = one_call(trace, study->widths, study->input(call / study->each), study->choice(study->widths, call % study->each));
     }
     if (known) {
-        struct probes probes = probes_of(trace, starts, calls, &known);
+        struct probes probes = probes_of(trace, starts, calls);
         printf("    %lu calls of %lu instructions, %lu probes\n", (unsigned long)calls, (unsigned long)trace->steps, (unsigned long)probes.count);
-        if (!known) printf("    memory is written from no register, at a place that depends on the masks\n");
         leaking = study->leaking(&probes, study->inputs);
         drop_probes(&probes);
     }
@@ -165,13 +167,13 @@ int main(int count, char **words) {
         uint32_t n, m;
         uint8_t table[4];
     } cases[] = {{1, 1, {1, 0}}, {2, 1, {0, 1, 1, 0}}, {2, 2, {2, 0, 3, 1}}, {1, 1, {0, 1}}, {2, 1, {1, 1, 0, 0}}, {2, 2, {0, 1, 3, 2}}};
-    bool linear_alone = count == 4 && !strcmp(words[3], "linear");
-    uint32_t method = count == 3 || linear_alone ? (uint32_t)atoi(words[2]) : 0;
+    bool linear_alone = count == 5 && !strcmp(words[4], "linear");
+    uint32_t method = count == 4 || linear_alone ? (uint32_t)atoi(words[3]) : 0;
     int found = SILENT;
-    subject = method ? subject_named(words[1]) : NULL;
-    if (!subject || method < 2 || method > 3) {
-        fprintf(stderr, "usage: audit SUBJECT METHOD [linear]\n");
-        return UNKNOWN;
+    subject = method ? subject_named(words[2]) : NULL;
+    if (!subject || method < 2 || method > 3 || !read_operands(words[1])) {
+        fprintf(stderr, "usage: audit OPERANDS SUBJECT METHOD [linear]\n");
+        return WRONG_USAGE;
     }
     for (size_t i = 0; i < subject->cases && found != UNKNOWN && !linear_alone; i++) {
         int here = exhaustive((struct widths){method, cases[i].n, cases[i].m}, cases[i].table);
