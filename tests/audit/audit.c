@@ -148,9 +148,10 @@ static struct choice random_choice(struct widths w, size_t number) {
     return c;
 }
 
-// Some inputs with choices of masks drawn at random, at n = m = 8.
+// Some inputs with choices of masks drawn at random, at n = m = 8. Each byte is a probe: where two numbers' exclusive or leaks, one of their
+// bytes' does.
 static int linear(uint32_t method) {
-    struct study study = {"linear", {method, 8, 8}, {8, 8}, RANDOM_INPUTS, RANDOM_CHOICES, some_input, random_choice, leaking_sums};
+    struct study study = {"linear", {method, 8, 8}, {1, 1}, RANDOM_INPUTS, RANDOM_CHOICES, some_input, random_choice, leaking_sums};
     struct trace trace;
     for (uint32_t i = 0; i < LONGEST; i++) {
         uint32_t odd_multiple = (i * 37 + 11) % LONGEST;
