@@ -1,5 +1,6 @@
 // From a trace to probes.
 #include "probes.h"
+#include "parts.h"
 
 #include <stdbool.h>
 #include <stdio.h>
@@ -23,7 +24,7 @@ static struct probes places_changed(const struct trace *trace, size_t calls) {
         changed[key] = 1;
     }
     probes.list = room(count, sizeof *probes.list);
-    for (size_t key = 0; key < keys; key++)
+    for (size_t key = watches(ENTRY_PART) ? 0 : PLACES; key < keys; key++)
         if (changed[key]) probes.list[probes.count++] = (struct probe){(uint32_t)(key / PLACES), (uint32_t)(key % PLACES), NULL};
     free(changed);
     return probes;

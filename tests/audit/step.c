@@ -3,6 +3,7 @@
 #define _GNU_SOURCE
 #include "step.h"
 #include "operands.h"
+#include "parts.h"
 
 #include <cpuid.h>
 #include <signal.h>
@@ -84,46 +85,47 @@ static void note(size_t place, size_t size, const uint8_t *content) {
 }
 
 // Notes each piece of a region that is not what it was; at entry all.
-static void compare(size_t place, const void *content, size_t length, size_t piece) {
+static void compare(enum part part, size_t place, const void *content, size_t length, size_t piece) {
     const uint8_t *bytes = content;
-    if (!at_entry && !memcmp(image + place, bytes, length)) return;
+    if (!watches(part) || (!at_entry && !memcmp(image + place, bytes, length))) return;
     for (size_t at = 0; at < length; at += piece)
         if (at_entry || memcmp(image + place + at, bytes + at, piece)) note(place + at, piece, bytes + at);
     memcpy(image + place, bytes, length);
 }
 
-static void compare_memory(size_t place, uintptr_t address, size_t width) {
+static void compare_memory(enum part part, size_t place, uintptr_t address, size_t width) {
     uint8_t content[WIDEST] = {0};
     memcpy(content, (const void *)address, width < WIDEST ? width : WIDEST);
-    compare(place, content, WIDEST, watched->division.vector);
+    compare(part, place, content, WIDEST, watched->division.vector);
 }
 
 static void compare_vectors(const struct _libc_fpstate *saved) {
     uint8_t vectors[VECTOR_REGISTERS][WIDEST] = {{0}};
     uint64_t in_use = 0;
     for (int i = 0; i < VECTOR_REGISTERS; i++) memcpy(vectors[i], &saved->_xmm[i], HALF);
-    if (upper_halves) memcpy(&in_use, (const uint8_t *)saved + 512, 8);
+    if (upper_halves && watches(UPPER_HALVES_PART)) memcpy(&in_use, (const uint8_t *)saved + 512, 8);
     if (in_use & 4)
         for (int i = 0; i < VECTOR_REGISTERS; i++) memcpy(vectors[i] + HALF, (const uint8_t *)saved + upper_halves + HALF * i, HALF);
-    compare(VECTORS, vectors, sizeof vectors, watched->division.vector);
+    compare(VECTORS_PART, VECTORS, vectors, sizeof vectors, watched->division.vector);
 }
 
 // What changes in memory must lie where the instruction is known to write.
 static void check_store(const char *name, const uint8_t *bytes, uint8_t *before, size_t length) {
     if (!memcmp(before, bytes, length)) return;
     for (size_t i = 0; i < length; i++)
-        if (before[i] != bytes[i] && (uintptr_t)(bytes + i) - store.from >= store.length)
+        if (before[i] != bytes[i] && (uintptr_t)(bytes + i) - store.from >= store.length && watches(STORES_PART))
             snprintf(trouble, sizeof trouble, "%#lx writes to the %s, and is not known to", (unsigned long)last_address, name);
     memcpy(before, bytes, length);
 }
 
 // What the instruction that has run has left behind.
 static void note_effects(const ucontext_t *context, const uint64_t general[GENERAL_REGISTERS]) {
-    uint64_t flags = (uint64_t)context->uc_mcontext.gregs[REG_EFL] & ARITHMETIC_FLAGS;
-    compare(GENERAL, general, GENERAL_REGISTERS * sizeof *general, watched->division.general);
-    compare(FLAGS, &flags, sizeof flags, watched->division.general);
+    uint64_t seen[GENERAL_REGISTERS], flags = (uint64_t)context->uc_mcontext.gregs[REG_EFL] & ARITHMETIC_FLAGS;
+    for (int i = 0; i < GENERAL_REGISTERS; i++) seen[i] = watches(HIGH_BITS_PART) ? general[i] : general[i] & 0xff;
+    compare(GENERAL_PART, GENERAL, seen, sizeof seen, watched->division.general);
+    compare(FLAGS_PART, FLAGS, &flags, sizeof flags, watched->division.general);
     compare_vectors(context->uc_mcontext.fpregs);
-    if (store.length) compare_memory(WRITTEN, store.from, store.length);
+    if (store.length) compare_memory(WRITES_PART, WRITTEN, store.from, store.length);
     check_store("stack", call_stack, stack_before, STACK_ROOM);
     for (int i = 0; i < BUFFERS; i++) check_store(current->lent[i].name, current->lent[i].bytes, lent_before[i], current->lent[i].length);
 }
@@ -137,13 +139,13 @@ static void note_operands(uintptr_t instruction, const uint64_t general[GENERAL_
         store.from = general[RDI], store.length = general[RDX];
         return;
     }
-    if (!operand)
+    if (!operand && watches(INSTRUCTIONS_PART))
         snprintf(trouble, sizeof trouble, "%#lx is not known: %02x %02x %02x %02x %02x %02x ..", (unsigned long)instruction, code[0],
                  code[1], code[2], code[3], code[4], code[5]);
     for (; operand && operand->instruction == instruction; operand++) {
         uint64_t address = address_of(operand, general);
-        if (operand->base >= 0 && operand->index >= 0) compare(ADDRESS, &address, sizeof address, watched->division.general);
-        if (operand->access == 'r') compare_memory(READ, address, operand->width);
+        if (operand->base >= 0 && operand->index >= 0) compare(ADDRESSES_PART, ADDRESS, &address, sizeof address, watched->division.general);
+        if (operand->access == 'r') compare_memory(READS_PART, READ, address, operand->width);
         if (operand->access == 'w') store.from = address, store.length = operand->width;
     }
 }
@@ -154,7 +156,7 @@ static void follow(void) {
         snprintf(trouble, sizeof trouble, "runs too long");
     else if (!later)
         watched->addresses[watched->steps++] = last_address;
-    else if (step > watched->steps || watched->addresses[step - 1] != last_address)
+    else if (step > watched->steps || (watched->addresses[step - 1] != last_address && watches(FLOW_PART)))
         snprintf(trouble, sizeof trouble, "control flow differs");
 }
 
@@ -174,8 +176,9 @@ static void between_instructions(int signal, siginfo_t *information, void *conte
     last_address = next;
     step++;
     if (!trouble[0] && next != (uintptr_t)audit_back) note_operands(next, general);
+    if (trouble[0]) saved[REG_RIP] = (greg_t)audit_back; // the call is given up
     if (next == (uintptr_t)audited_memset_done) saved[REG_EFL] |= TRAP_FLAG;
-    if (trouble[0] || next == (uintptr_t)audit_back || next == (uintptr_t)audited_memset) saved[REG_EFL] &= ~TRAP_FLAG;
+    if (saved[REG_RIP] == (greg_t)audit_back || next == (uintptr_t)audited_memset) saved[REG_EFL] &= ~TRAP_FLAG;
 }
 
 void start_trace(struct trace *trace, struct division division) {
