@@ -51,25 +51,24 @@ control upper_halves
 control reads
     mov %cl, -8(%rsp)
     mov %r8b, -7(%rsp)
-    testw $0, -8(%rsp)
+    xor %eax, %eax
+    and -8(%rsp), %ax
     go_on
 
-# r1 in memory takes x0's lowest bit in, from the carry flag: 2 r1 + that bit is nowhere but in memory. The carry is 0 afterwards.
-    .macro join_in_memory place:vararg
-    mov %r8b, \place
-    bt $0, %ecx
-    rclb $1, \place
-    .endm
-
+# 512 r1 in memory takes in x0's lowest bit, from the carry flag: one word holds both, and no register does. The carry is 0 afterwards.
 control stack_writes
-    join_in_memory -8(%rsp)
+    mov %r8b, -7(%rsp)
+    bt $0, %ecx
+    rclw $1, -8(%rsp)
     go_on
 
-# The same at a place that depends on r3.
+# The same with 2 r1 in a byte, at a place that depends on r3.
 control scratch_writes
     mov 56(%rsp), %rax
     mov 24(%rsp), %r10d
-    join_in_memory (%rax,%r10)
+    mov %r8b, (%rax,%r10)
+    bt $0, %ecx
+    rclb $1, (%rax,%r10)
     go_on
 
 # x0 and r1 are added in an address alone; what is there is 0.
