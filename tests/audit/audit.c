@@ -167,6 +167,7 @@ static int linear(uint32_t method, bool same_code) {
     return found;
 }
 
+// The exhaustive cases of the subject, if `small`; then the linear one, if `large` and nothing leaks so far.
 static int audit(uint32_t method, bool small, bool large) {
     static const struct {
         uint32_t n, m;

@@ -1,5 +1,5 @@
 # The controls: each handles its arguments in one way that one part of the audit alone can see, on its way to a call that is silent by itself.
-# A control bears the name of its part (parts.h). In two parts there are two, for the stack and for the lent scratch.
+# A control has the name of its part (parts.h). Two parts have two, for the stack and for the lent scratch. The last three have none.
 #
 # At entry: edi method, esi n, edx m, ecx x0, r8d r1, r9d r2; on the stack, from 8(%rsp) on, 8 bytes each: s1, s2, r3, b, table, its
 # length, scratch, its length. x0 and r1 together leak with r2. mov, lea, bswap and vector instructions leave the flags as they are.

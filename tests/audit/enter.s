@@ -1,5 +1,5 @@
-# How a call is entered, with nothing in the registers but its arguments; and the memset that it is given. Both go through memory where the
-# audit has something to keep, so that no register and no byte of the call's stack holds more than the call put there.
+# How a call is entered, and the memset that it is linked with. What the audit itself needs stands in variables of step.c: at entry the
+# registers hold the call's arguments and zeros, and memset leaves nothing on the call's stack.
     .text
 
     .globl audit_enter, audit_back

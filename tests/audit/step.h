@@ -46,10 +46,10 @@ void start_trace(struct trace *trace, struct division division);
 void end_trace(struct trace *trace);
 
 // Makes the call and adds its changes to the trace. Returns NULL, or why it cannot be judged: it takes another way than the first call of
-// the trace, runs too long, takes too much stack, or comes to an instruction that is not known.
+// the trace, runs too long, takes too much stack, comes to an instruction that is not known, or one writes where it is not known to.
 const char *step_through(struct trace *trace, const struct call *call, uint64_t *result);
 
-// Writes a place's name, as "rax", "xmm3" or "read".
+// Writes a place's name, as "rax", "ymm3" or "read".
 enum { NAME_LENGTH = 24 };
 void name_place(uint32_t place, char name[NAME_LENGTH]);
 

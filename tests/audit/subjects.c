@@ -4,11 +4,28 @@
 #include <stddef.h>
 #include <string.h>
 
-// Those of controls.s, and how many of the exhaustive cases each needs.
-#define CONTROLS(each)                                                                                                              \
-    each(general, 1) each(high_bits, 1) each(flags, 1) each(vectors, 1) each(upper_halves, 1) each(reads, 1) each(stack_writes, 1)   \
-        each(scratch_writes, 1) each(addresses, 1) each(entry, 1) each(bytes, 1) each(answers, 1) each(flow, 1) each(instructions, 1)               \
-            each(stack_stores, 1) each(scratch_stores, 1) each(widths, 2) each(length, 1) each(depth, 1) each(vector_store, 2)
+// Those of controls.s, each with how many of the exhaustive cases it needs.
+#define CONTROLS(each)      \
+    each(general, 1)        \
+    each(high_bits, 1)      \
+    each(flags, 1)          \
+    each(vectors, 1)        \
+    each(upper_halves, 1)   \
+    each(reads, 1)          \
+    each(stack_writes, 1)   \
+    each(scratch_writes, 1) \
+    each(addresses, 1)      \
+    each(entry, 1)          \
+    each(bytes, 1)          \
+    each(answers, 1)        \
+    each(flow, 1)           \
+    each(instructions, 1)   \
+    each(stack_stores, 1)   \
+    each(scratch_stores, 1) \
+    each(widths, 2)         \
+    each(length, 1)         \
+    each(depth, 1)          \
+    each(vector_store, 2)
 
 // Only their addresses are used: the arguments are laid out by hand.
 #define DECLARATION(name, cases) void control_##name(void);
