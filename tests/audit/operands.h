@@ -7,7 +7,7 @@
 #include <stdint.h>
 
 // The general registers, in the order of operands.py.
-enum { RCX = 2, RDX = 3, RDI = 5, RSP = 7, GENERAL_REGISTERS = 16 };
+enum { RDX = 3, RDI = 5, RSP = 7, GENERAL_REGISTERS = 16 };
 
 // Base and index are registers, or -1.
 struct operand {
