@@ -1,14 +1,18 @@
-// Audits the machine code of one call: `audit SUBJECT METHOD [linear]`. Exhaustive at small widths, then linear at n = m = 8, or linear alone.
-// It exits with 0 where nothing leaks, with 1 where something does, and with 2 where it can't tell: a wrong answer, control flow
-// that depends on the numbers, memory written from no register, or code at n = m = 8 that no small width runs.
+// Audits the machine code of one call: `audit OPERANDS SUBJECT METHOD [exhaustive | linear] [without PART]`. Exhaustive at small widths, then
+// linear at n = m = 8, or one of both. OPERANDS is the table that operands.py makes of this program's listing.
+// It exits with 0 where nothing leaks, with 1 where something does, with 2 where it can't tell, and says why: a wrong answer, control flow
+// that depends on the numbers, an instruction that is not known, code at n = m = 8 that no small width runs. 3 is for wrong usage.
+#include "operands.h"
+#include "parts.h"
 #include "probes.h"
 #include "subjects.h"
 
+#include <stdbool.h>
 #include <stdio.h>
 #include <stdlib.h>
 #include <string.h>
 
-enum { SILENT = 0, LEAKS = 1, UNKNOWN = 2, LONGEST = 256, RANDOM_INPUTS = 4, RANDOM_CHOICES = 24 };
+enum { SILENT = 0, LEAKS = 1, UNKNOWN = 2, WRONG_USAGE = 3, LONGEST = 256, RANDOM_INPUTS = 4, RANDOM_CHOICES = 24 };
 
 static uint8_t table[LONGEST], scratch[LONGEST];
 static uint16_t entries[2400];
@@ -34,23 +38,24 @@ struct study {
     uint32_t (*input)(size_t number);
     struct choice (*choice)(struct widths widths, size_t number);
     size_t (*leaking)(const struct probes *probes, size_t inputs);
+    bool (*way)(const struct trace *trace); // whether the way that all calls take will do, or NULL
 };
 
-// Steps through one call; whether it took the usual way and its answer is the table's entry under both masks.
+// Steps through one call; whether it can be judged and its answer is the table's entry under both masks.
 static bool one_call(struct trace *trace, struct widths w, uint32_t x, struct choice c) {
     size_t length = (size_t)1 << w.n, log_length = 10 + (w.method == 2 ? 6 : 9) * length;
     struct call call = {subject->code,
                         {w.method, w.n, w.m, x ^ c.r1 ^ c.r2, c.r1, c.r2, c.s1, c.s2, c.r3, c.b, (uintptr_t)table, length,
                          (uintptr_t)scratch, length, (uintptr_t)entries, log_length},
-                        scratch, length, subject->logged ? entries : NULL, log_length};
+                        {{"table", table, length}, {"scratch", scratch, length}, {"log", entries, 2 * log_length}}};
     uint64_t result;
     memset(scratch, 0, sizeof scratch);
     memset(entries, 0, sizeof entries);
-    bool usual = step_through(trace, &call, &result);
-    uint32_t share = subject->logged ? entries[log_length - 1] & 255u : (uint32_t)result & 65535u;
-    if (usual && share == (table[x] ^ c.s1 ^ c.s2)) return true;
-    printf("    %s: x = %u, r1 = %u, r2 = %u, r3 = %u, s1 = %u, s2 = %u, b = %u\n", usual ? "wrong answer" : "control flow differs", x, c.r1,
-           c.r2, c.r3, c.s1, c.s2, c.b);
+    const char *trouble = step_through(trace, &call, &result);
+    uint32_t share = subject->flags & LOGGED ? entries[log_length - 1] & 255u : (uint32_t)result & 65535u;
+    if (!trouble && share != (table[x] ^ c.s1 ^ c.s2) && watches(ANSWERS_PART)) trouble = "wrong answer";
+    if (!trouble) return true;
+    printf("    %s: x = %u, r1 = %u, r2 = %u, r3 = %u, s1 = %u, s2 = %u, b = %u\n", trouble, x, c.r1, c.r2, c.r3, c.s1, c.s2, c.b);
     return false;
 }
 
@@ -62,11 +67,11 @@ static int carry_out(const struct study *study, struct trace *trace) {
     for (size_t call = 0; call < calls && known; call++) {
         starts[call] = trace->count;
         known = one_call(trace, study->widths, study->input(call / study->each), study->choice(study->widths, call % study->each));
+        if (call == 0 && study->way) known = known && study->way(trace);
     }
     if (known) {
-        struct probes probes = probes_of(trace, starts, calls, &known);
+        struct probes probes = probes_of(trace, starts, calls);
         printf("    %lu calls of %lu instructions, %lu probes\n", (unsigned long)calls, (unsigned long)trace->steps, (unsigned long)probes.count);
-        if (!known) printf("    memory is written from no register, at a place that depends on the masks\n");
         leaking = study->leaking(&probes, study->inputs);
         drop_probes(&probes);
     }
@@ -117,9 +122,9 @@ static struct choice choice_numbered(struct widths w, size_t number) {
 // Every input with every choice of masks.
 static int exhaustive(struct widths w, const uint8_t *lent_table) {
     size_t inputs = (size_t)1 << w.n, each = (size_t)1 << (3 * w.n + 2 * w.m + (w.method - 2));
-    struct study study = {"exhaustive", w, {8, 32}, inputs, each, input_itself, choice_numbered, leaking_pairs};
+    struct study study = {"exhaustive", w, {8, 32}, inputs, each, input_itself, choice_numbered, leaking_pairs, NULL};
     struct trace trace;
-    if (subject->logged) study.division = (struct division){2, 2};
+    if (subject->flags & LOGGED) study.division = (struct division){2, 2};
     memcpy(table, lent_table, inputs);
     int found = carry_out(&study, &trace);
     if (w.n == 2) add_audited(&trace);
@@ -146,37 +151,55 @@ static struct choice random_choice(struct widths w, size_t number) {
     return c;
 }
 
-// Some inputs with choices of masks drawn at random, at n = m = 8.
-static int linear(uint32_t method) {
-    struct study study = {"linear", {method, 8, 8}, {8, 8}, RANDOM_INPUTS, RANDOM_CHOICES, some_input, random_choice, leaking_sums};
+// Some inputs with choices of masks drawn at random, at n = m = 8. Each byte is a probe: where two numbers' exclusive or leaks, one of their
+// bytes' does.
+static int linear(uint32_t method, bool same_code) {
+    struct study study = {"linear", {method, 8, 8}, {1, 1}, RANDOM_INPUTS, RANDOM_CHOICES, some_input, random_choice, leaking_sums, NULL};
     struct trace trace;
+    if (same_code && watches(WIDTHS_PART)) study.way = all_audited;
+    if (!watches(BYTES_PART)) study.division = (struct division){8, 8};
     for (uint32_t i = 0; i < LONGEST; i++) {
         uint32_t odd_multiple = (i * 37 + 11) % LONGEST;
         table[i] = (uint8_t)(odd_multiple ^ odd_multiple >> 3); // both steps can be undone, so each value comes up once
     }
     int found = carry_out(&study, &trace);
-    if (!subject->control && !all_audited(&trace)) found = UNKNOWN;
     end_trace(&trace);
     return found;
 }
 
-int main(int count, char **words) {
+// The exhaustive cases of the subject, if `small`; then the linear one, if `large` and nothing leaks so far.
+static int audit(uint32_t method, bool small, bool large) {
     static const struct {
         uint32_t n, m;
         uint8_t table[4];
-    } cases[] = {{1, 1, {1, 0}}, {2, 1, {0, 1, 1, 0}}, {2, 2, {2, 0, 3, 1}}, {1, 1, {0, 1}}, {2, 1, {1, 1, 0, 0}}, {2, 2, {0, 1, 3, 2}}};
-    bool linear_alone = count == 4 && !strcmp(words[3], "linear");
-    uint32_t method = count == 3 || linear_alone ? (uint32_t)atoi(words[2]) : 0;
+    } cases[] = {{1, 1, {1, 0}},       {2, 1, {0, 1, 1, 0}}, {2, 2, {2, 0, 3, 1}},
+                 {1, 1, {0, 1}},       {2, 1, {1, 1, 0, 0}}, {2, 2, {0, 1, 3, 2}},
+                 {2, 1, {0, 0, 0, 1}}, // not balanced: what leaks is whether the input is 3
+    };
     int found = SILENT;
-    subject = method ? subject_named(words[1]) : NULL;
-    if (!subject || method < 2 || method > 3) {
-        fprintf(stderr, "usage: audit SUBJECT METHOD [linear]\n");
-        return UNKNOWN;
-    }
-    for (size_t i = 0; i < subject->cases && found != UNKNOWN && !linear_alone; i++) {
+    for (size_t i = subject->first; small && i < subject->first + subject->cases && found != UNKNOWN; i++) {
         int here = exhaustive((struct widths){method, cases[i].n, cases[i].m}, cases[i].table);
         if (here > found) found = here;
-        if (subject->control && found == LEAKS) break;
+        if (subject->flags & CONTROL && found == LEAKS) break;
     }
-    return found == SILENT ? linear(method) : found;
+    return large && found == SILENT ? linear(method, small && !(subject->flags & BY_WIDTH)) : found;
+}
+
+int main(int count, char **words) {
+    bool small = true, large = true, known = count >= 4;
+    uint32_t method = known ? (uint32_t)atoi(words[3]) : 0;
+    int next = 4;
+    if (next < count && !strcmp(words[next], "exhaustive")) large = false, next++;
+    if (next < count && !strcmp(words[next], "linear") && large) small = false, next++;
+    if (next + 1 < count && !strcmp(words[next], "without")) {
+        known = known && leave_out(words[next + 1]);
+        printf("without %s:\n", words[next + 1]);
+        next += 2;
+    }
+    subject = known ? subject_named(words[2]) : NULL;
+    if (!subject || next != count || method < 2 || method > 3 || !read_operands(words[1])) {
+        fprintf(stderr, "usage: audit OPERANDS SUBJECT METHOD [exhaustive | linear] [without PART]\n");
+        return WRONG_USAGE;
+    }
+    return audit(method, small, large);
 }

@@ -1,6 +1,8 @@
 // The exact comparison of all pairs of probes.
 #include "probes.h"
+#include "parts.h"
 
+#include <stdbool.h>
 #include <stdio.h>
 #include <stdlib.h>
 #include <string.h>
@@ -77,13 +79,13 @@ static bool leaks(int32_t *counts, const struct view *one, const struct view *ot
 
 size_t leaking_pairs(const struct probes *probes, size_t inputs) {
     struct views views = distinct_views(probes);
-    size_t each = probes->calls / inputs, widest = 1, found = 0;
+    size_t each = probes->calls / inputs, compared = watches(INPUTS_PART) ? inputs : 2, widest = 1, found = 0;
     for (size_t i = 0; i < views.count; i++)
         if (views.list[i].count > widest) widest = views.list[i].count;
     int32_t *counts = room(widest * widest, sizeof *counts);
     for (size_t i = 0; i < views.count; i++)
         for (size_t j = i; j < views.count; j++) {
-            if (!leaks(counts, &views.list[i], &views.list[j], inputs, each)) continue;
+            if (!leaks(counts, &views.list[i], &views.list[j], compared, each)) continue;
             if (found++ < SHOWN) print_leak(probes, views.list[i].probe, views.list[j].probe);
         }
     printf("    %lu of the probes tell calls apart in different ways; leaking pairs: %lu\n", (unsigned long)views.count, (unsigned long)found);

@@ -1,6 +1,7 @@
 // The linear comparison of all pairs of probes.
 #include "probes.h"
 
+#include <stdbool.h>
 #include <stdio.h>
 #include <stdlib.h>
 #include <string.h>

@@ -17,9 +17,7 @@ struct probes {
 
 // Every place that some call of the trace changes at a step, with its value after that step in every call. `starts` has the
 // number of each call's first change. Probes that are the same in all calls are left out: nothing depends on them.
-// Where it depends on the masks which byte of memory a step writes, the probe is the register that it writes, which is there already:
-// what lies untouched elsewhere is not seen at that step. `clear` is false if no register explains what such a step writes.
-struct probes probes_of(const struct trace *trace, const size_t *starts, size_t calls, bool *clear);
+struct probes probes_of(const struct trace *trace, const size_t *starts, size_t calls);
 void drop_probes(struct probes *probes);
 
 // Prints what leaks, up to some number of times; the second is NULL where the first leaks alone.

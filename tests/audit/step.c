@@ -1,105 +1,72 @@
-// Single steps by the processor's trap flag: after each instruction of the call a signal handler compares everything with what
-// it was before. x86-64 Linux only.
+// Single steps by the processor's trap flag: between any two instructions of the call a signal handler notes what the first has
+// changed and written, and what the second will read. x86-64 Linux only.
 #define _GNU_SOURCE
 #include "step.h"
+#include "operands.h"
+#include "parts.h"
 
 #include <cpuid.h>
 #include <signal.h>
+#include <stdbool.h>
 #include <stdio.h>
 #include <stdlib.h>
 #include <string.h>
 #include <ucontext.h>
 
-enum { MOST_STEPS = 1 << 16, STACK_ROOM = 4096, RED_ZONE = 128, TRAP_FLAG = 0x100, ARITHMETIC_FLAGS = 0x8d5 };
+enum { MOST_STEPS = 1 << 16, STACK_ROOM = 4096, RED_ZONE = 128, LONGEST_BUFFER = 8192, TRAP_FLAG = 0x100, ARITHMETIC_FLAGS = 0x8d5 };
+enum { WIDEST = 32, HALF = WIDEST / 2, VECTOR_REGISTERS = 16 };
 
-// A place is where it stands in an image of all that is watched.
+// A place is where it stands in an image of all that is watched. The last address with two registers, and what was read and written last,
+// stand there like registers.
 enum {
     GENERAL = 0,
-    FLAGS = GENERAL + 16 * 8,
-    VECTOR = FLAGS + 8,
-    STACK = VECTOR + 16 * 32,
-    SCRATCH = STACK + STACK_ROOM,
-    LOG = SCRATCH + 1024,
-    IMAGE = LOG + 8192
+    FLAGS = GENERAL + GENERAL_REGISTERS * 8,
+    VECTORS = FLAGS + 8,
+    ADDRESS = VECTORS + VECTOR_REGISTERS * WIDEST,
+    READ = ADDRESS + 8,
+    WRITTEN = READ + WIDEST,
+    IMAGE = WRITTEN + WIDEST
 };
-_Static_assert((int)IMAGE <= (int)PLACES, "every place has a number");
+_Static_assert((int)IMAGE == (int)PLACES, "every place has a number");
 
 static uint8_t image[IMAGE];
 static uint8_t call_stack[STACK_ROOM] __attribute__((aligned(64)));
+static uint8_t stack_before[STACK_ROOM], lent_before[BUFFERS][LONGEST_BUFFER];
 static uint8_t handler_stack[1 << 16];
 static struct trace *watched;
 static const struct call *current;
-static size_t step, lowest;
+static size_t step;
 static uintptr_t last_address;
-static bool first, lost;
+static bool at_entry, later; // before the first instruction; in a call that is not the first of its trace
+static struct {
+    uintptr_t from;
+    size_t length;
+} store;                    // where the next instruction writes
+static char trouble[128];   // why the call cannot be judged
 static size_t upper_halves; // where the upper halves of the vector registers stand in the saved state, or 0
 
-// What the entry code below reads and writes. It goes through memory, so that no register holds more than the call's arguments.
+// What enter.s reads and writes.
 uint64_t audit_arguments[REGISTER_ARGUMENTS];
 void *audit_code, *audit_stack, *audit_own_stack;
 uint64_t audit_result, audit_wide;
-extern char audit_back[], audited_memset[];
+extern char audit_back[], audited_memset[], audited_memset_done[];
 void audit_enter(void);
 
-__asm__(".text\n"
-        ".globl audit_enter, audit_back\n"
-        "audit_enter:\n"
-        "  push %rbx; push %rbp; push %r12; push %r13; push %r14; push %r15\n"
-        "  mov %rsp, audit_own_stack(%rip)\n"
-        "  mov audit_stack(%rip), %rsp\n"
-        "  cmpq $0, audit_wide(%rip)\n"
-        "  je 1f\n"
-        "  vzeroall\n"
-        "1:\n"
-        "  pxor %xmm0, %xmm0; pxor %xmm1, %xmm1; pxor %xmm2, %xmm2; pxor %xmm3, %xmm3\n"
-        "  pxor %xmm4, %xmm4; pxor %xmm5, %xmm5; pxor %xmm6, %xmm6; pxor %xmm7, %xmm7\n"
-        "  pxor %xmm8, %xmm8; pxor %xmm9, %xmm9; pxor %xmm10, %xmm10; pxor %xmm11, %xmm11\n"
-        "  pxor %xmm12, %xmm12; pxor %xmm13, %xmm13; pxor %xmm14, %xmm14; pxor %xmm15, %xmm15\n"
-        "  mov audit_arguments(%rip), %rdi\n"
-        "  mov audit_arguments+8(%rip), %rsi\n"
-        "  mov audit_arguments+16(%rip), %rdx\n"
-        "  mov audit_arguments+24(%rip), %rcx\n"
-        "  mov audit_arguments+32(%rip), %r8\n"
-        "  mov audit_arguments+40(%rip), %r9\n"
-        "  xor %eax, %eax; xor %ebx, %ebx; xor %ebp, %ebp; xor %r10d, %r10d; xor %r11d, %r11d\n"
-        "  xor %r12d, %r12d; xor %r13d, %r13d; xor %r14d, %r14d; xor %r15d, %r15d\n"
-        "  pushfq\n"
-        "  orq $0x100, (%rsp)\n"
-        "  popfq\n"
-        "  call *audit_code(%rip)\n"
-        "audit_back:\n"
-        "  mov audit_own_stack(%rip), %rsp\n"
-        "  mov %rax, audit_result(%rip)\n"
-        "  pop %r15; pop %r14; pop %r13; pop %r12; pop %rbp; pop %rbx\n"
-        "  ret\n"
-        // memset is the firmware's: all of it counts as one step, so it is entered without the trap flag and sets it again
-        ".globl audited_memset\n"
-        "audited_memset:\n"
-        "  mov %rdi, %r9\n"
-        "  mov %esi, %eax\n"
-        "  mov %rdx, %rcx\n"
-        "  rep stosb\n"
-        "  mov %r9, %rax\n"
-        "  pushfq\n"
-        "  orq $0x100, (%rsp)\n"
-        "  popfq\n"
-        "  ret\n");
-
-// The number of a wide register's content: the same content has the same number in the whole run of the program.
-static uint64_t number_of(const uint8_t content[32]) {
+// The number of more than 8 bytes: the same content has the same number in the whole run of the program.
+static uint64_t number_of(const uint8_t content[WIDEST]) {
     enum { SLOTS = 1 << 20 };
-    static uint8_t (*contents)[32];
+    static uint8_t (*contents)[WIDEST];
     static uint64_t used;
     uint64_t words[4], hash = 0;
-    if (!contents && !(contents = calloc(SLOTS, 32))) abort();
-    memcpy(words, content, 32);
+    if (!contents && !(contents = calloc(SLOTS, WIDEST))) abort();
+    memcpy(words, content, WIDEST);
     for (int i = 0; i < 4; i++) hash = (hash ^ words[i]) * 0x9e3779b97f4a7c15u, hash ^= hash >> 29;
     if (!(words[0] | words[1] | words[2] | words[3])) return 0;
     for (uint64_t slot = hash % (SLOTS - 1) + 1;; slot = slot % (SLOTS - 1) + 1) {
-        if (!memcmp(contents[slot], content, 32)) return slot;
-        if (memcmp(contents[slot], contents[0], 32)) continue;
+        if (!memcmp(contents[slot], content, WIDEST)) return slot;
+        if (memcmp(contents[slot], contents[0], WIDEST)) continue;
         if (++used > SLOTS / 2) abort();
-        memcpy(contents[slot], content, 32);
+        memcpy(contents[slot], content, WIDEST);
         return slot;
     }
 }
@@ -107,7 +74,7 @@ static uint64_t number_of(const uint8_t content[32]) {
 static void note(size_t place, size_t size, const uint8_t *content) {
     uint64_t value = 0;
     if (watched->count == watched->room) {
-        lost = true;
+        snprintf(trouble, sizeof trouble, "runs too long");
         return;
     }
     if (size > 8)
@@ -117,63 +84,101 @@ static void note(size_t place, size_t size, const uint8_t *content) {
     watched->changes[watched->count++] = (struct change){(uint32_t)step, (uint32_t)place, value};
 }
 
-// Notes each part of a region that is not what it was; at the first step of a call all parts, if `all`.
-static void compare(size_t place, const void *content, size_t length, size_t part, bool all) {
+// Notes each piece of a region that is not what it was; at entry all.
+static void compare(enum part part, size_t place, const void *content, size_t length, size_t piece) {
     const uint8_t *bytes = content;
-    if (!all && !memcmp(image + place, bytes, length)) return;
-    for (size_t at = 0; at < length; at += part)
-        if (all || memcmp(image + place + at, bytes + at, part)) note(place + at, part, bytes + at);
+    if (!watches(part) || (!at_entry && !memcmp(image + place, bytes, length))) return;
+    for (size_t at = 0; at < length; at += piece)
+        if (at_entry || memcmp(image + place + at, bytes + at, piece)) note(place + at, piece, bytes + at);
     memcpy(image + place, bytes, length);
 }
 
-static void compare_vectors(const struct _libc_fpstate *saved) {
-    uint8_t vectors[16][32];
-    for (int i = 0; i < 16; i++) {
-        memcpy(vectors[i], &saved->_xmm[i], 16);
-        memset(vectors[i] + 16, 0, 16);
-    }
-    uint64_t in_use = 0;
-    if (upper_halves) memcpy(&in_use, (const uint8_t *)saved + 512, 8);
-    if (in_use & 4)
-        for (int i = 0; i < 16; i++) memcpy(vectors[i] + 16, (const uint8_t *)saved + upper_halves + 16 * i, 16);
-    compare(VECTOR, vectors, sizeof vectors, watched->division.vector, first);
+static void compare_memory(enum part part, size_t place, uintptr_t address, size_t width) {
+    uint8_t content[WIDEST] = {0};
+    memcpy(content, (const void *)address, width < WIDEST ? width : WIDEST);
+    compare(part, place, content, WIDEST, watched->division.vector);
 }
 
-// Everything that is watched, against the image. Below the stack pointer and its red zone no instruction of a call writes.
-static void compare_all(const ucontext_t *context) {
-    static const int order[16] = {REG_RAX, REG_RBX, REG_RCX, REG_RDX, REG_RSI, REG_RDI, REG_RBP, REG_RSP,
-                                  REG_R8,  REG_R9,  REG_R10, REG_R11, REG_R12, REG_R13, REG_R14, REG_R15};
-    uint64_t general[16], flags = (uint64_t)context->uc_mcontext.gregs[REG_EFL] & ARITHMETIC_FLAGS;
-    for (int i = 0; i < 16; i++) general[i] = (uint64_t)context->uc_mcontext.gregs[order[i]];
-    size_t pointer = (size_t)(general[7] - (uintptr_t)call_stack);
-    if (pointer > STACK_ROOM || pointer < RED_ZONE + 8) {
-        lost = true;
+static void compare_vectors(const struct _libc_fpstate *saved) {
+    uint8_t vectors[VECTOR_REGISTERS][WIDEST] = {{0}};
+    uint64_t in_use = 0;
+    for (int i = 0; i < VECTOR_REGISTERS; i++) memcpy(vectors[i], &saved->_xmm[i], HALF);
+    if (upper_halves && watches(UPPER_HALVES_PART)) memcpy(&in_use, (const uint8_t *)saved + 512, 8);
+    if (in_use & 4)
+        for (int i = 0; i < VECTOR_REGISTERS; i++) memcpy(vectors[i] + HALF, (const uint8_t *)saved + upper_halves + HALF * i, HALF);
+    compare(VECTORS_PART, VECTORS, vectors, sizeof vectors, watched->division.vector);
+}
+
+// What changes in memory must lie where the instruction is known to write.
+static void check_store(const char *name, const uint8_t *bytes, uint8_t *before, size_t length) {
+    if (!memcmp(before, bytes, length)) return;
+    for (size_t i = 0; i < length; i++)
+        if (before[i] != bytes[i] && (uintptr_t)(bytes + i) - store.from >= store.length && watches(STORES_PART))
+            snprintf(trouble, sizeof trouble, "%#lx writes to the %s, and is not known to", (unsigned long)last_address, name);
+    memcpy(before, bytes, length);
+}
+
+// What the instruction that has run has left behind.
+static void note_effects(const ucontext_t *context, const uint64_t general[GENERAL_REGISTERS]) {
+    uint64_t seen[GENERAL_REGISTERS], flags = (uint64_t)context->uc_mcontext.gregs[REG_EFL] & ARITHMETIC_FLAGS;
+    for (int i = 0; i < GENERAL_REGISTERS; i++) seen[i] = watches(HIGH_BITS_PART) ? general[i] : general[i] & 0xff;
+    compare(GENERAL_PART, GENERAL, seen, sizeof seen, watched->division.general);
+    compare(FLAGS_PART, FLAGS, &flags, sizeof flags, watched->division.general);
+    compare_vectors(context->uc_mcontext.fpregs);
+    if (store.length) compare_memory(WRITES_PART, WRITTEN, store.from, store.length);
+    check_store("stack", call_stack, stack_before, STACK_ROOM);
+    for (int i = 0; i < BUFFERS; i++) check_store(current->lent[i].name, current->lent[i].bytes, lent_before[i], current->lent[i].length);
+}
+
+// What the next instruction reads, and where. An address of one register is that register's value, moved, and no new value.
+static void note_operands(uintptr_t instruction, const uint64_t general[GENERAL_REGISTERS]) {
+    const struct operand *operand = operands_of(instruction);
+    const uint8_t *code = (const uint8_t *)instruction;
+    store.length = 0;
+    if (instruction == (uintptr_t)audited_memset) {
+        store.from = general[RDI], store.length = general[RDX];
         return;
     }
-    size_t from = (pointer < lowest ? pointer : lowest) - RED_ZONE;
-    lowest = pointer;
-    compare(GENERAL, general, sizeof general, watched->division.general, first);
-    compare(FLAGS, &flags, sizeof flags, 8, first);
-    compare_vectors(context->uc_mcontext.fpregs);
-    compare(STACK + from, call_stack + from, STACK_ROOM - from, 1, first);
-    compare(SCRATCH, current->scratch, current->scratch_length, 1, first);
-    if (current->log) compare(LOG, current->log, 2 * current->log_length, 2, first);
+    if (!operand && watches(INSTRUCTIONS_PART))
+        snprintf(trouble, sizeof trouble, "%#lx is not known: %02x %02x %02x %02x %02x %02x ..", (unsigned long)instruction, code[0],
+                 code[1], code[2], code[3], code[4], code[5]);
+    for (; operand && operand->instruction == instruction; operand++) {
+        uint64_t address = address_of(operand, general);
+        if (operand->base >= 0 && operand->index >= 0) compare(ADDRESSES_PART, ADDRESS, &address, sizeof address, watched->division.general);
+        if (operand->access == 'r') compare_memory(READS_PART, READ, address, operand->width);
+        if (operand->access == 'w') store.from = address, store.length = operand->width;
+    }
 }
 
-static void after_instruction(int signal, siginfo_t *information, void *context_of_call) {
+// The first call of a trace sets the way that all others take.
+static void follow(void) {
+    if (step > MOST_STEPS)
+        snprintf(trouble, sizeof trouble, "runs too long");
+    else if (!later)
+        watched->addresses[watched->steps++] = last_address;
+    else if (step > watched->steps || (watched->addresses[step - 1] != last_address && watches(FLOW_PART)))
+        snprintf(trouble, sizeof trouble, "control flow differs");
+}
+
+static void between_instructions(int signal, siginfo_t *information, void *context_of_call) {
+    static const int order[GENERAL_REGISTERS] = {REG_RAX, REG_RBX, REG_RCX, REG_RDX, REG_RSI, REG_RDI, REG_RBP, REG_RSP,
+                                                 REG_R8,  REG_R9,  REG_R10, REG_R11, REG_R12, REG_R13, REG_R14, REG_R15};
     ucontext_t *context = context_of_call;
-    uintptr_t address = (uintptr_t)context->uc_mcontext.gregs[REG_RIP];
+    greg_t *saved = context->uc_mcontext.gregs;
+    uintptr_t next = (uintptr_t)saved[REG_RIP];
+    uint64_t general[GENERAL_REGISTERS];
     (void)signal, (void)information;
-    compare_all(context);
-    if (!first && step <= MOST_STEPS) {
-        if (watched->steps < step) watched->addresses[watched->steps++] = last_address;
-        lost = lost || watched->addresses[step - 1] != last_address;
-    }
-    first = false;
-    last_address = address;
+    for (int i = 0; i < GENERAL_REGISTERS; i++) general[i] = (uint64_t)saved[order[i]];
+    if (general[RSP] - (uintptr_t)call_stack - RED_ZONE > STACK_ROOM - RED_ZONE) snprintf(trouble, sizeof trouble, "takes too much stack");
+    if (!trouble[0] && !at_entry) follow();
+    if (!trouble[0]) note_effects(context, general);
+    at_entry = false;
+    last_address = next;
     step++;
-    if (lost || step > MOST_STEPS || address == (uintptr_t)audit_back || address == (uintptr_t)audited_memset)
-        context->uc_mcontext.gregs[REG_EFL] &= ~TRAP_FLAG;
+    if (!trouble[0] && next != (uintptr_t)audit_back) note_operands(next, general);
+    if (trouble[0]) saved[REG_RIP] = (greg_t)audit_back; // the call is given up
+    if (next == (uintptr_t)audited_memset_done) saved[REG_EFL] |= TRAP_FLAG;
+    if (saved[REG_RIP] == (greg_t)audit_back || next == (uintptr_t)audited_memset) saved[REG_EFL] &= ~TRAP_FLAG;
 }
 
 void start_trace(struct trace *trace, struct division division) {
@@ -188,7 +193,7 @@ void start_trace(struct trace *trace, struct division division) {
         audit_wide = 1;
     }
     stack_t stack = {.ss_sp = handler_stack, .ss_size = sizeof handler_stack};
-    struct sigaction action = {.sa_sigaction = after_instruction, .sa_flags = SA_SIGINFO | SA_ONSTACK};
+    struct sigaction action = {.sa_sigaction = between_instructions, .sa_flags = SA_SIGINFO | SA_ONSTACK};
     if (sigaltstack(&stack, NULL) || sigaction(SIGTRAP, &action, NULL)) abort();
 }
 
@@ -206,44 +211,54 @@ static void make_room(struct trace *trace) {
     if (!trace->changes) abort();
 }
 
-bool step_through(struct trace *trace, const struct call *call, uint64_t *result) {
+static void prepare(const struct call *call) {
     uint64_t *stack_arguments = (uint64_t *)(void *)(call_stack + STACK_ROOM) - STACK_ARGUMENTS;
-    size_t known = trace->steps;
-    make_room(trace);
     memset(call_stack, 0, sizeof call_stack);
     memset(image, 0, sizeof image);
     memcpy(audit_arguments, call->arguments, sizeof audit_arguments);
     memcpy(stack_arguments, call->arguments + REGISTER_ARGUMENTS, STACK_ARGUMENTS * sizeof *stack_arguments);
+    stack_arguments[-1] = (uintptr_t)audit_back;
+    memcpy(stack_before, call_stack, STACK_ROOM);
+    for (int i = 0; i < BUFFERS; i++) {
+        if (call->lent[i].length > LONGEST_BUFFER) abort();
+        memcpy(lent_before[i], call->lent[i].bytes, call->lent[i].length);
+    }
     audit_code = (void *)(uintptr_t)call->code;
     audit_stack = stack_arguments;
+}
+
+const char *step_through(struct trace *trace, const struct call *call, uint64_t *result) {
+    make_room(trace);
+    prepare(call);
     watched = trace;
     current = call;
     step = 0;
-    lowest = STACK_ROOM;
-    first = true;
-    lost = false;
+    store.length = 0;
+    at_entry = true;
+    later = trace->steps > 0;
+    trouble[0] = 0;
     audit_enter();
     *result = audit_result;
-    return !lost && step <= MOST_STEPS && (!known || trace->steps == known) && step == trace->steps + 1;
-}
-
-size_t memory_size(uint32_t place) {
-    return place < STACK ? 0 : place < LOG ? 1 : 2;
+    if (!trouble[0] && step != trace->steps + 1) return "control flow differs";
+    return trouble[0] ? trouble : NULL;
 }
 
 void name_place(uint32_t place, char name[NAME_LENGTH]) {
-    static const char *const general[16] = {"rax", "rbx", "rcx", "rdx", "rsi", "rdi", "rbp", "rsp",
-                                            "r8",  "r9",  "r10", "r11", "r12", "r13", "r14", "r15"};
-    if (place < FLAGS)
-        snprintf(name, NAME_LENGTH, place % 8 ? "%s, byte %u" : "%s", general[place / 8], place % 8);
-    else if (place < VECTOR)
-        snprintf(name, NAME_LENGTH, "flags");
-    else if (place < STACK)
-        snprintf(name, NAME_LENGTH, (place - VECTOR) % 32 ? "xmm%u, byte %u" : "xmm%u", (place - VECTOR) / 32, (place - VECTOR) % 32);
-    else if (place < SCRATCH)
-        snprintf(name, NAME_LENGTH, "stack%+d", (int)(place - STACK) - (STACK_ROOM - 8 * STACK_ARGUMENTS - 8));
-    else if (place < LOG)
-        snprintf(name, NAME_LENGTH, "scratch+%u", place - SCRATCH);
-    else
-        snprintf(name, NAME_LENGTH, "log+%u", (place - LOG) / 2);
+    static const char *const general[GENERAL_REGISTERS] = {"rax", "rbx", "rcx", "rdx", "rsi", "rdi", "rbp", "rsp",
+                                                           "r8",  "r9",  "r10", "r11", "r12", "r13", "r14", "r15"};
+    static const char *const others[] = {"flags", "address", "read", "written"};
+    static const uint32_t starts[] = {FLAGS, ADDRESS, READ, WRITTEN};
+    uint32_t start;
+    if (place < FLAGS) {
+        start = GENERAL + (place - GENERAL) / 8 * 8;
+        snprintf(name, NAME_LENGTH, "%s", general[(start - GENERAL) / 8]);
+    } else if (place >= VECTORS && place < ADDRESS) {
+        start = VECTORS + (place - VECTORS) / WIDEST * WIDEST;
+        snprintf(name, NAME_LENGTH, "ymm%u", (start - VECTORS) / WIDEST);
+    } else {
+        int other = (place >= ADDRESS) + (place >= READ) + (place >= WRITTEN);
+        start = starts[other];
+        snprintf(name, NAME_LENGTH, "%s", others[other]);
+    }
+    if (place > start) snprintf(name + strlen(name), NAME_LENGTH - strlen(name), ", byte %u", place - start);
 }

@@ -1,27 +1,30 @@
-// Runs a call one instruction at a time, and writes down every value that an instruction changes: in a general or a vector
-// register, in the flags, in a byte of the call's stack or of the lent scratch, in an entry of the lent log.
+// Runs a call one instruction at a time, and writes down what each instruction handles: what it changes in a general or a vector
+// register or in the flags, what it reads from memory or writes to it, and where.
 #ifndef STEP_H
 #define STEP_H
 
-#include <stdbool.h>
 #include <stddef.h>
 #include <stdint.h>
 
-enum { REGISTER_ARGUMENTS = 6, STACK_ARGUMENTS = 10, ARGUMENTS = REGISTER_ARGUMENTS + STACK_ARGUMENTS };
+enum { REGISTER_ARGUMENTS = 6, STACK_ARGUMENTS = 10, ARGUMENTS = REGISTER_ARGUMENTS + STACK_ARGUMENTS, BUFFERS = 3 };
 
-// How many bytes of a register make one probe. A vector register of more than 8 is kept as the number of its content.
+// How many bytes make one probe: of a general register, the flags or an address, and of a vector register or of what is read or
+// written at once. More than 8 are kept as the number of their content.
 struct division {
     size_t general, vector;
 };
 
-// What is stepped through: its code, its arguments, and the buffers that it is lent.
+struct buffer {
+    const char *name;
+    const void *bytes;
+    size_t length;
+};
+
+// What is stepped through: its code, its arguments, and the memory that it is lent.
 struct call {
     void (*code)(void);
     uint64_t arguments[ARGUMENTS];
-    uint8_t *scratch;
-    size_t scratch_length;
-    uint16_t *log;
-    size_t log_length;
+    struct buffer lent[BUFFERS];
 };
 
 // At a step, a place has a new value. Step 0 is the moment before the first instruction.
@@ -42,18 +45,15 @@ struct trace {
 void start_trace(struct trace *trace, struct division division);
 void end_trace(struct trace *trace);
 
-// Makes the call and adds its changes to the trace. The first call of a trace sets the addresses; false where a later one takes
-// another way, or where a call runs too long or its stack too deep.
-bool step_through(struct trace *trace, const struct call *call, uint64_t *result);
+// Makes the call and adds its changes to the trace. Returns NULL, or why it cannot be judged: it takes another way than the first call of
+// the trace, runs too long, takes too much stack, comes to an instruction that is not known, or one writes where it is not known to.
+const char *step_through(struct trace *trace, const struct call *call, uint64_t *result);
 
-// Writes a place's name, as "rax", "xmm3", "stack-24" or "scratch+1".
+// Writes a place's name, as "rax", "ymm3" or "read".
 enum { NAME_LENGTH = 24 };
 void name_place(uint32_t place, char name[NAME_LENGTH]);
 
-// How many places there are: each is below this. The general registers' are the first, 8 apart.
-enum { PLACES = 16384, GENERAL_REGISTERS = 16, REGISTER_PLACES = 8 };
-
-// How many bytes of memory a place is: 1, or 2 in the log; 0 for a register.
-size_t memory_size(uint32_t place);
+// How many places there are: each is below this.
+enum { PLACES = 720 };
 
 #endif

@@ -2,14 +2,17 @@
 #ifndef SUBJECTS_H
 #define SUBJECTS_H
 
-#include <stdbool.h>
+enum {
+    LOGGED = 1,  // it writes a log, and each 16 bits of what it handles are a probe of their own
+    CONTROL = 2, // the audit is tried on it: the first case that leaks is enough
+    BY_WIDTH = 4 // it may run other code at n = 8 than at n = 2
+};
 
 struct subject {
     const char *name;
     void (*code)(void);
-    unsigned cases; // how many of the exhaustive cases are for it
-    bool logged;    // it writes a log, and each 16-bit part of a register is a probe of its own
-    bool control;   // C code that the audit is tried on: one leak is enough, and it may run other code at other widths
+    unsigned first, cases; // the first of the exhaustive cases that is for it, and how many are
+    unsigned flags;
 };
 
 // NULL where there is none

@@ -1,0 +1,44 @@
+// Reads the table of operands, and looks up in it.
+#include "operands.h"
+
+#include <inttypes.h>
+#include <stdio.h>
+#include <stdlib.h>
+
+static struct operand *operands; // in the order of their instructions, with an empty one at the end
+static size_t count;
+
+bool read_operands(const char *path) {
+    FILE *table = fopen(path, "r");
+    struct operand next;
+    size_t room = 0;
+    if (!table) return false;
+    while (fscanf(table, "%" SCNxPTR " %c %zu %d %d %" SCNu64 " %" SCNd64, &next.instruction, &next.access, &next.width, &next.base,
+                  &next.index, &next.scale, &next.displacement) == 7) {
+        if (count && next.instruction < operands[count - 1].instruction) break;
+        if (count + 1 >= room) operands = realloc(operands, (room = 2 * room + 1024) * sizeof *operands);
+        if (!operands) abort();
+        operands[count++] = next;
+    }
+    bool whole = count && feof(table);
+    if (whole) operands[count] = (struct operand){.access = '-'};
+    fclose(table);
+    return whole;
+}
+
+const struct operand *operands_of(uintptr_t instruction) {
+    size_t from = 0, to = count;
+    while (from < to) {
+        size_t middle = from + (to - from) / 2;
+        if (operands[middle].instruction < instruction)
+            from = middle + 1;
+        else
+            to = middle;
+    }
+    return from < count && operands[from].instruction == instruction ? &operands[from] : NULL;
+}
+
+uintptr_t address_of(const struct operand *operand, const uint64_t general[GENERAL_REGISTERS]) {
+    uint64_t base = operand->base < 0 ? 0 : general[operand->base], index = operand->index < 0 ? 0 : general[operand->index];
+    return base + index * operand->scale + (uint64_t)operand->displacement;
+}
