@@ -31,7 +31,7 @@ sbox:
 
 # what the machine code does with the masks, an instruction at a time: half a minute to two minutes; x86-64 Linux only
 audit: lib
-	@rt staticlib logged_export > target/logged.log 2>&1 || { cat target/logged.log; exit 1; }
+	@rt staticlib test_logged_export > target/logged.log 2>&1 || { cat target/logged.log; exit 1; }
 	@tests/audit/run && cat target/audit/plain_2.log target/audit/plain_3.log
 
 # the tables of docs/PERFORMANCE.md; needs valgrind

@@ -1,4 +1,4 @@
-# The cases of the logged call for the program logged_calls, and what the model says of each.
+# The cases of the logged call for the program test_logged_calls, and what the model says of each.
 # A case is a record of 320 bytes: the call's ten numbers as little-endian u32 in the order of its parameters, then as u16 the
 # lengths of the table, the scratch and the log that are lent, and from byte 46 the table. Scratch and log are lent filled, so
 # that what a call writes and what it leaves can both be seen. The answers are one line a record: refusal, share and count,

@@ -1,4 +1,4 @@
-# The cases of split, join, key addition and the linear layer for the program small_calls, and what the model says of each.
+# The cases of split, join, key addition and the linear layer for the program test_small_calls, and what the model says of each.
 # A case is a record of 64 bytes: byte 0 the call, from byte 4 its numbers as little-endian u32 in the order of the call's
 # parameters, byte 40 the number of rows, from byte 41 the rows. The answers are one line a record.
 import random

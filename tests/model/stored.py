@@ -26,14 +26,14 @@ def program_files(name, module):
 def sheet_files():
     texts = list(sheets.all_sheets())
     records = [struct.pack("<H", len(text)) + text for text in texts]
-    return {"bench_sheets/data/cases": b"".join(records), "bench_sheets/stdout": b"".join(map(model.bench, texts))}
+    return {"test_case_sheets/data/cases": b"".join(records), "test_case_sheets/stdout": b"".join(map(model.bench, texts))}
 
 
 # What each file below crates/ must hold.
 def made_files():
     return {
-        **program_files("small_calls", small_cases),
-        **program_files("logged_calls", logged_cases),
+        **program_files("test_small_calls", small_cases),
+        **program_files("test_logged_calls", logged_cases),
         **sheet_files(),
         "bench/stdin": document.SAMPLE_INPUT,
         "bench/stdout": model.bench(document.SAMPLE_INPUT),

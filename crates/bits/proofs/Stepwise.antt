@@ -1,7 +1,8 @@
 -- Document 03 writes exclusive or, common bits and the count of ones step by step, for a fixed number of bits. Within that number of bits
--- they are the exact operations, so nothing that is stated with the exact ones is weaker. Assumes nothing.
+-- they are the exact operations, so nothing that is stated with the exact ones is weaker.
 use mathlib.Core.Path.{_≡_, refl, sym, _∙_}
 use Prim.Native.Nat.{ℕ, zero, suc, _+_, _*_, _/_, _%_, _^_, _<_, min}
+use native.Mathlib.Nat.{mul-comm}
 use native.Mathlib.Omega.{arith}
 use lib.Arith.{lt-one}
 use lib.Bits.{bitAnd, and-step}
@@ -40,6 +41,11 @@ pub both-bits-exact : (k : ℕ) {a : ℕ} (b : ℕ) → a < 2 ^ k → both-bits 
 unfolding both-bits
 both-bits-exact zero b h = rw (lt-one h)
 both-bits-exact (suc k) {a} b h = rw (common a b, both-bits-exact k (b / 2) (half-below k h)) (sym (and-step a b ∙ turned _ _))
+
+pub both-bits-comm : (k a b : ℕ) → both-bits k a b ≡ both-bits k b a
+unfolding both-bits
+both-bits-comm zero a b = refl
+both-bits-comm (suc k) a b = rw (both-bits-comm k (a / 2) (b / 2), mul-comm (a % 2) (b % 2))
 
 pub ones-from-exact : (k : ℕ) {v : ℕ} → v < 2 ^ k → ones-from k v ≡ ones v
 unfolding ones-from ones

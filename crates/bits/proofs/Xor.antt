@@ -1,5 +1,5 @@
 -- The laws of exclusive or: it is associative and commutative, 0 changes nothing, each number undoes itself, and no bit is added.
--- `simp xors` closes an identity of ⊕. Assumes nothing.
+-- `simp xors` closes an identity of ⊕.
 use mathlib.Core.Path.{_≡_, refl, sym, _∙_}
 use Prim.Native.Nat.{ℕ, zero, suc, _+_, _*_, _/_, _%_, _^_, _<_}
 use native.Mathlib.Nat.{mod-lt, div-add-mod'}
@@ -11,12 +11,12 @@ use Rattle.bits.specs.Xor.{_⊕_}
 
 -- what holds of 0 and of 1 holds of every lowest bit
 pub bit-ind : (P : ℕ → Type 0) → P 0 → P 1 → (n : ℕ) → P (n % 2)
-bit-ind P p q n = go (n % 2) (mod-lt n (lit< tt))
+bit-ind P p q n = bit-ind-by-cases (n % 2) (mod-lt n (lit< tt))
   where
-    go : (x : ℕ) → x < 2 → P x
-    go zero h = p
-    go (suc zero) h = q
-    go (suc (suc x)) h = absurd (omega arith)
+    bit-ind-by-cases : (x : ℕ) → x < 2 → P x
+    bit-ind-by-cases zero h = p
+    bit-ind-by-cases (suc zero) h = q
+    bit-ind-by-cases (suc (suc x)) h = absurd (omega arith)
 
 pub comm : (a b : ℕ) → a ⊕ b ≡ b ⊕ a
 unfolding _⊕_

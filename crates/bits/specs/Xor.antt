@@ -1,4 +1,4 @@
--- Exclusive or, bit by bit: exactly what the code's `^` denotes. Assumes nothing: this is a definition.
+-- Exclusive or, bit by bit: exactly what the code's `^` denotes.
 use Prim.Native.Nat.{ℕ}
 use lib.Bits.{bitXor}
 

@@ -1,4 +1,3 @@
--- What the methods give, and what the calls hand back.
-pub mod Methods
+-- What the calls hand back.
 pub mod Replies
 pub mod Sizes

@@ -1,8 +1,8 @@
--- What the calls hand back and leave behind, refused and accepted, from what their parts told. Assumes nothing.
+-- What the calls hand back and leave behind, refused and accepted, from what their parts told.
 use mathlib.Core.Path.{_≡_, refl, sym, _∙_}
-use mathlib.Core.Logic.{_⊎_, inl, inr, ⊎-elim}
+use mathlib.Core.Bool.{true}
 use mathlib.Core.List.{List}
-use Prim.Native.Nat.{ℕ, zero, suc, _+_, _*_, _^_, _≤_}
+use Prim.Native.Nat.{ℕ, zero, suc, _^_, _≤_}
 use native.Mathlib.Omega.{arith}
 use borrow.Author.Tests.{ltb-false}
 use mir.Syntax.{w32}
@@ -10,16 +10,14 @@ use mir.Val.{Fits}
 use lib.ListN.{length}
 use Rattle.refusals.specs.Checks.{first-of}
 use Rattle.refusals.proofs.Checks.{passed}
-use Rattle.log.specs.Written.{in-front}
+use Rattle.buffers.specs.Written.{in-front}
 use Rattle.lookup.specs.declared.Case.{Case}
-use Rattle.lookup.specs.declared.Called.{Called}
-use Rattle.lookup.specs.Case.{Q}
 use Rattle.lookup.specs.Bounded.{Bounded}
-use Rattle.lookup.specs.Call.{answer, scratch-after}
-use Rattle.lookup.specs.Log.{log, log-length}
+use Rattle.lookup.specs.Methods.{known}
+use Rattle.lookup.specs.Call.{answer, scratch-after, log-of, log-length, scratch-length}
 use Rattle.lookup.specs.Refusals.{scratch-checks, log-checks, plain-refusal, logged-refusal}
-use Rattle.lookup.proofs.ByMethod.{by-2, by-3}
-use Rattle.lookup.proofs.Accepted.{Accepted, accepted, accepted-bounded}
+use Rattle.lookup.proofs.Accepted.{Taken, accepted, accepted-bounded}
+use Rattle.lookup.proofs.Promises.{taken-right}
 use Rattle.calls.specs.Reply.{called, left, plain-reply, plain-scratch, logged-reply, logged-scratch, logged-log}
 use Rattle.call_checks.proofs.Checking.{plain-case, logged-plain}
 
@@ -50,7 +48,8 @@ module _ (c : Case) (table scratch : List ℕ) (j : ℕ) (told : j ≡ plain-ref
   unfolding plain-scratch
   plain-kept h = left-refused j _ _ _ told h
 
-  pub plain-answered : (share : ℕ) → j ≡ 0 → share ≡ answer c table → record { refusal = j; share = share; count = 0 } ≡ plain-reply c table scratch
+  pub plain-answered : (share : ℕ) → j ≡ 0 → share ≡ answer c table
+      → record { refusal = j; share = share; count = 0 } ≡ plain-reply c table scratch
   unfolding plain-reply
   plain-answered share z e = rw e (called-accepted j _ _ _ told z)
 
@@ -59,20 +58,20 @@ module _ (c : Case) (table scratch : List ℕ) (j : ℕ) (told : j ≡ plain-ref
   plain-left now z e = e ∙ left-accepted j _ _ _ told z
 
   -- what an accepted call knows
-  taken : j ≡ 0 → Accepted c table
+  taken : j ≡ 0 → Taken c table
   taken z = accepted c table (plain-case c table scratch (sym told ∙ z) .0)
 
-  pub plain-method : j ≡ 0 → (c .method ≡ 2) ⊎ (c .method ≡ 3)
-  plain-method z = ⊎-elim (λ h. inl (h .0)) (λ h. inr (h .0)) (taken z .chosen)
+  pub plain-method : j ≡ 0 → known (c .method) ≡ true
+  plain-method z = taken z .0
 
   pub plain-bounded : j ≡ 0 → Bounded c
-  plain-bounded z = accepted-bounded c table (taken z)
+  plain-bounded z = accepted-bounded _ c table (taken-right c table (taken z) .bit) (taken z .1)
 
   pub plain-table : j ≡ 0 → length table ≡ 2 ^ c .n
-  plain-table z = taken z .table .long
+  plain-table z = taken z .1 .table .long
 
-  pub plain-room : j ≡ 0 → 2 ^ c .n ≤ length scratch
-  unfolding scratch-checks Q
+  pub plain-room : j ≡ 0 → scratch-length (c .method) (c .n) ≤ length scratch
+  unfolding scratch-checks
   plain-room z = ltb-false _ _ (passed _ 12 _ (plain-case c table scratch (sym told ∙ z) .1) .0)
 
 module _ (c : Case) (table scratch lent : List ℕ) (j : ℕ) (told : j ≡ logged-refusal c table scratch lent) where
@@ -97,7 +96,7 @@ module _ (c : Case) (table scratch lent : List ℕ) (j : ℕ) (told : j ≡ logg
   unfolding logged-scratch
   logged-left now z e = e ∙ left-accepted j _ _ _ told z
 
-  pub log-left : (now : List ℕ) → j ≡ 0 → now ≡ in-front (log c table) lent → now ≡ logged-log c table scratch lent
+  pub log-left : (now : List ℕ) → j ≡ 0 → now ≡ in-front (log-of c table) lent → now ≡ logged-log c table scratch lent
   unfolding logged-log
   log-left now z e = e ∙ left-accepted j _ _ _ told z
 
@@ -105,7 +104,7 @@ module _ (c : Case) (table scratch lent : List ℕ) (j : ℕ) (told : j ≡ logg
   both : j ≡ 0 → (plain-refusal c table scratch ≡ 0) × (first-of (log-checks c lent) ≡ 0)
   both z = logged-plain c table scratch lent (sym told ∙ z)
 
-  pub logged-method : j ≡ 0 → (c .method ≡ 2) ⊎ (c .method ≡ 3)
+  pub logged-method : j ≡ 0 → known (c .method) ≡ true
   logged-method z = plain-method c table scratch _ (sym (both z .0)) refl
 
   pub logged-bounded : j ≡ 0 → Bounded c
@@ -117,7 +116,7 @@ module _ (c : Case) (table scratch lent : List ℕ) (j : ℕ) (told : j ≡ logg
   pub logged-table : j ≡ 0 → length table ≡ 2 ^ c .n
   logged-table z = plain-table c table scratch _ (sym (both z .0)) refl
 
-  pub logged-room : j ≡ 0 → 2 ^ c .n ≤ length scratch
+  pub logged-room : j ≡ 0 → scratch-length (c .method) (c .n) ≤ length scratch
   logged-room z = plain-room c table scratch _ (sym (both z .0)) refl
 
   pub log-room : j ≡ 0 → log-length (c .method) (c .n) ≤ length lent
@@ -127,10 +126,6 @@ module _ (c : Case) (table scratch lent : List ℕ) (j : ℕ) (told : j ≡ logg
   -- the count fits a u32
   pub count-fits : (count : ℕ) → j ≡ 0 → count ≡ log-length (c .method) (c .n) → Fits w32 count
   unfolding log-length
-  count-fits count z e = ⊎-elim (λ h. size (e ∙ by-2 _ _ _ h)) (λ h. size' (e ∙ by-3 _ _ _ h)) (logged-method z)
-    where
-      size : count ≡ 10 + 6 * 2 ^ c .n → Fits w32 count
-      size h = record { fits = omega (arith, h, logged-bounded z .size) }
-
-      size' : count ≡ 10 + 9 * 2 ^ c .n → Fits w32 count
-      size' h = record { fits = omega (arith, h, logged-bounded z .size) }
+  count-fits count z e =
+      let accepted-case = taken c table scratch _ (sym (both z .0)) refl in
+      record { fits = omega (arith, e, taken-right c table accepted-case .short (2 ^ c .n), logged-bounded z .size) }

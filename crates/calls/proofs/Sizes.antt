@@ -1,4 +1,4 @@
--- A plain call's number and share have eight bits each. Assumes nothing.
+-- A plain call's number and share have eight bits each.
 use mathlib.Core.Path.{_≡_, refl}
 use mathlib.Core.List.{List, _++_}
 use Prim.Native.Nat.{ℕ, zero, suc, _≤_, _<_}
@@ -17,23 +17,23 @@ use Rattle.calls.specs.Reply.{called, plain-reply}
 use Rattle.call_checks.proofs.Checking.{plain-case}
 
 module _ (c : Case) (table scratch : List ℕ) where
-  number-small : plain-refusal c table scratch ≤ 13
+  number-small : plain-refusal c table scratch ≤ 255
   unfolding plain-refusal up-to case-checks method-checks table-checks mask-checks scratch-checks
-  number-small = first-most 13 (case-checks c table ++ scratch-checks c scratch) refl
+  number-small = first-most 255 (case-checks c table ++ scratch-checks c scratch) refl
 
   answer-byte : plain-refusal c table scratch ≡ 0 → answer c table < 256
   unfolding Answer-small
   answer-byte e =
       let whole = plain-case c table scratch e .0 in
-      let t = accepted c table whole .table in
+      let t = accepted c table whole .1 .table in
       lt-of-lt-of-le (answer-small table c whole) (pow-mono (le-trans (t .output-most) (t .input-most)))
 
   -- by the refusal, zero or not
-  sizes : (k share : ℕ) → k ≤ 13 → (k ≡ 0 → share < 256) → (called k share 0 .refusal ≤ 13) × (called k share 0 .share < 256)
+  sizes : (k share : ℕ) → k ≤ 255 → (k ≡ 0 → share < 256) → (called k share 0 .refusal ≤ 255) × (called k share 0 .share < 256)
   unfolding called
   sizes zero share h l = (omega arith, l refl)
   sizes (suc k) share h l = (h, omega arith)
 
-  pub reply-sizes : (plain-reply c table scratch .refusal ≤ 13) × (plain-reply c table scratch .share < 256)
+  pub reply-sizes : (plain-reply c table scratch .refusal ≤ 255) × (plain-reply c table scratch .share < 256)
   unfolding plain-reply
   reply-sizes = sizes _ _ number-small answer-byte

@@ -1,17 +1,15 @@
 -- What the logged and the plain call hand back, and what they leave in the lent scratch and log: refused calls leave all as it was.
--- Assumes nothing: these are definitions.
 use mathlib.Core.List.{List}
 use Prim.Native.Nat.{ℕ, zero, suc}
-use Rattle.log.specs.Written.{in-front}
+use Rattle.buffers.specs.Written.{in-front}
 use Rattle.lookup.specs.declared.Case.{Case}
 use Rattle.lookup.specs.declared.Called.{Called}
-use Rattle.lookup.specs.Call.{answer, scratch-after}
-use Rattle.lookup.specs.Log
+use Rattle.lookup.specs.Call.{answer, scratch-after, log-of, log-length}
 use Rattle.lookup.specs.Refusals.{plain-refusal, logged-refusal}
 
 -- a call's numbers as a case
-abbrev pub case : (method n m x0 r1 r2 s1 s2 r3 b : ℕ) → Case
-case method n m x0 r1 r2 s1 s2 r3 b =
+abbrev pub case-from : (method n m x0 r1 r2 s1 s2 r3 b : ℕ) → Case
+case-from method n m x0 r1 r2 s1 s2 r3 b =
     record { method = method; n = n; m = m; x0 = x0; r1 = r1; r2 = r2; s1 = s1; s2 = s2; r3 = r3; b = b }
 
 -- the share and the count where nothing is refused, and zeros beside the number of a refusal
@@ -32,11 +30,11 @@ unfoldable pub plain-scratch : Case → (table scratch : List ℕ) → List ℕ
 plain-scratch c table scratch = left (plain-refusal c table scratch) (scratch-after c table scratch) scratch
 
 -- the logged call
-unfoldable pub logged-reply : Case → (table scratch log : List ℕ) → Called
-logged-reply c table scratch log = called (logged-refusal c table scratch log) (answer c table) (Log.log-length (c .method) (c .n))
+unfoldable pub logged-reply : Case → (table scratch lent : List ℕ) → Called
+logged-reply c table scratch lent = called (logged-refusal c table scratch lent) (answer c table) (log-length (c .method) (c .n))
 
-unfoldable pub logged-scratch : Case → (table scratch log : List ℕ) → List ℕ
-logged-scratch c table scratch log = left (logged-refusal c table scratch log) (scratch-after c table scratch) scratch
+unfoldable pub logged-scratch : Case → (table scratch lent : List ℕ) → List ℕ
+logged-scratch c table scratch lent = left (logged-refusal c table scratch lent) (scratch-after c table scratch) scratch
 
-unfoldable pub logged-log : Case → (table scratch log : List ℕ) → List ℕ
-logged-log c table scratch log = left (logged-refusal c table scratch log) (in-front (Log.log c table) log) log
+unfoldable pub logged-log : Case → (table scratch lent : List ℕ) → List ℕ
+logged-log c table scratch lent = left (logged-refusal c table scratch lent) (in-front (log-of c table) lent) lent

@@ -1,14 +1,6 @@
 // The logged and the plain call: masked table lookup on three shares, under method 2 or 3.
 ghost use mathlib.Core.Path.{_≡_};
-ghost use mathlib.Core.Logic.{_⊎_};
-ghost use Prim.Native.Nat.{_^_, _≤_};
-ghost use lib.ListN.{length};
-ghost use Rattle.log.specs.Written.{in-front};
-ghost use Rattle.lookup.specs.Bounded.{Bounded};
-ghost use Rattle.lookup.specs.Call.{answer, scratch-after};
-ghost use Rattle.lookup.specs.Log.{log-length};
-ghost use Rattle.lookup.specs.Log as Log;
-ghost use Rattle.calls.specs.Reply.{case as Reply·case, plain-reply, plain-scratch, logged-reply, logged-scratch, logged-log};
+ghost use Rattle.calls.specs.Reply.{case-from, plain-reply, plain-scratch, logged-reply, logged-scratch, logged-log};
 use lookup::Called;
 use lookup::Case;
 
@@ -28,9 +20,12 @@ pub fn logged_call(
     scratch: &mut [u8],
     log: &mut [u16],
 ) -> Called
-    ensures { λ r. ⌜ r ≡ logged-reply (Reply·case method n m x0 r1 r2 s1 s2 r3 b) (now (table .entry)) (now (scratch .entry)) (now (log .entry)) ⌝ }
-    ensures { λ _. ⌜ now (scratch .exit) ≡ logged-scratch (Reply·case method n m x0 r1 r2 s1 s2 r3 b) (now (table .entry)) (now (scratch .entry)) (now (log .entry)) ⌝ }
-    ensures { λ _. ⌜ now (log .exit) ≡ logged-log (Reply·case method n m x0 r1 r2 s1 s2 r3 b) (now (table .entry)) (now (scratch .entry)) (now (log .entry)) ⌝ }
+    ensures { λ r. ⌜ r ≡ logged-reply (case-from method n m x0 r1 r2 s1 s2 r3 b) (now (table .entry)) (now (scratch .entry))
+        (now (log .entry)) ⌝ }
+    ensures { λ _. ⌜ now (scratch .exit) ≡ logged-scratch (case-from method n m x0 r1 r2 s1 s2 r3 b) (now (table .entry))
+        (now (scratch .entry)) (now (log .entry)) ⌝ }
+    ensures { λ _. ⌜ now (log .exit) ≡ logged-log (case-from method n m x0 r1 r2 s1 s2 r3 b) (now (table .entry)) (now (scratch .entry))
+        (now (log .entry)) ⌝ }
 {
     logged(
         Case {
@@ -66,8 +61,9 @@ pub fn plain_call(
     table: &[u8],
     scratch: &mut [u8],
 ) -> Called
-    ensures { λ r. ⌜ r ≡ plain-reply (Reply·case method n m x0 r1 r2 s1 s2 r3 b) (now (table .entry)) (now (scratch .entry)) ⌝ }
-    ensures { λ _. ⌜ now (scratch .exit) ≡ plain-scratch (Reply·case method n m x0 r1 r2 s1 s2 r3 b) (now (table .entry)) (now (scratch .entry)) ⌝ }
+    ensures { λ r. ⌜ r ≡ plain-reply (case-from method n m x0 r1 r2 s1 s2 r3 b) (now (table .entry)) (now (scratch .entry)) ⌝ }
+    ensures { λ _. ⌜ now (scratch .exit) ≡ plain-scratch (case-from method n m x0 r1 r2 s1 s2 r3 b) (now (table .entry))
+        (now (scratch .entry)) ⌝ }
 {
     plain(
         Case {
@@ -101,8 +97,8 @@ pub fn logged(case: Case, table: &[u8], scratch: &mut [u8], log: &mut [u16]) -> 
             count: 0,
         };
     }
-    let count = log::log_length(case.method, case.n);
-    let share = run_logged(case, table, scratch, log);
+    let count = methods::log_length(case.method, case.n);
+    let share = methods::run_logged(case, table, scratch, log);
     Called {
         refusal,
         share: share as u32,
@@ -122,43 +118,10 @@ fn plain(case: Case, table: &[u8], scratch: &mut [u8]) -> Called
             count: 0,
         };
     }
-    let share = run(case, table, scratch);
+    let share = methods::run(case, table, scratch);
     Called {
         refusal,
         share: share as u32,
         count: 0,
-    }
-}
-
-// The method's run. The call has checked the case and measured the buffers, so these have a `requires`.
-fn run_logged(case: Case, table: &[u8], scratch: &mut [u8], log: &mut [u16]) -> u8
-    requires { ⌜ (case .method ≡ 2) ⊎ (case .method ≡ 3) ⌝ }
-    requires { ⌜ Bounded case ⌝ }
-    requires { ⌜ length (now table) ≡ 2 ^ case .n ⌝ }
-    requires { ⌜ 2 ^ case .n ≤ length (now scratch) ⌝ }
-    requires { ⌜ log-length (case .method) (case .n) ≤ length (now log) ⌝ }
-    ensures { λ r. ⌜ r ≡ answer case (now (table .entry)) ⌝ }
-    ensures { λ _. ⌜ now (scratch .exit) ≡ scratch-after case (now (table .entry)) (now (scratch .entry)) ⌝ }
-    ensures { λ _. ⌜ now (log .exit) ≡ in-front (Log.log case (now (table .entry))) (now (log .entry)) ⌝ }
-{
-    if case.method == 2 {
-        method2::logged::run(case, table, scratch, log)
-    } else {
-        method3::logged::run(case, table, scratch, log)
-    }
-}
-
-fn run(case: Case, table: &[u8], scratch: &mut [u8]) -> u8
-    requires { ⌜ (case .method ≡ 2) ⊎ (case .method ≡ 3) ⌝ }
-    requires { ⌜ Bounded case ⌝ }
-    requires { ⌜ length (now table) ≡ 2 ^ case .n ⌝ }
-    requires { ⌜ 2 ^ case .n ≤ length (now scratch) ⌝ }
-    ensures { λ r. ⌜ r ≡ answer case (now (table .entry)) ⌝ }
-    ensures { λ _. ⌜ now (scratch .exit) ≡ scratch-after case (now (table .entry)) (now (scratch .entry)) ⌝ }
-{
-    if case.method == 2 {
-        method2::run(case, table, scratch)
-    } else {
-        method3::run(case, table, scratch)
     }
 }

@@ -1,4 +1,4 @@
--- What the loop over the fields or lines in front keeps. Assumes nothing.
+-- What the loop over the fields or lines in front keeps.
 use mathlib.Core.Path.{_≡_, refl, sym, ap, ap₂, _∙_}
 use mathlib.Core.Bool.{Bool}
 use mathlib.Core.List.{List, [], _∷_, _++_, append-assoc, append-nil}
@@ -10,7 +10,7 @@ use mir.Syntax.{w8, w64}
 use mir.Val.{Fits}
 use lib.ListN.{length, take, drop, set, take-append-drop, length-drop, length-set}
 use lib.Seq.{take-all, take-suc-set, drop-set-lt, drop-drop, length-take-le}
-use Rattle.log.specs.Written.{in-front}
+use Rattle.buffers.specs.Written.{in-front}
 use Rattle.field.specs.declared.Field.{Field}
 use Rattle.field.specs.declared.Field.the-variants.{Number, Malformed}
 use Rattle.case_sheet.specs.Sheet.{item, size, before, leading}
@@ -25,18 +25,19 @@ pub record Found (line : Bool) (input old new : List ℕ) (at i : ℕ) : Type 0 
   pub room : i ≤ length old
 
 module _ (line : Bool) (input old : List ℕ) where
-  pub begins : Found line input old old 0 0
-  begins = record { found = rw sub-zero; behind = refl; long = refl; within = omega arith; room = omega arith }
+  pub found-begins : Found line input old old 0 0
+  found-begins = record { found = rw sub-zero; behind = refl; long = refl; within = omega arith; room = omega arith }
 
   -- the input from a position on, as the code lends it
   rest : (at : ℕ) → take (length input - at) (drop at input) ≡ drop at input
   rest at = take-all (length input - at) (drop at input) (omega (arith, length-drop at input))
 
   -- one number more
-  pub turns : (new : List ℕ) (at i step value : ℕ) (r : Field) → i < length new → step ≡ size line → r ≡ item line (take (length input - at) (drop at input))
+  pub found-turns : (new : List ℕ) (at i step value : ℕ) (r : Field) → i < length new → step ≡ size line
+      → r ≡ item line (take (length input - at) (drop at input))
       → r ≡ Number value → Found line input old new at i → Found line input old (set new i value) (at + step) (i + 1)
   unfolding leading before
-  turns new at i step value r h s e q f =
+  found-turns new at i step value r h s e q f =
       let one : item line (drop at input) ≡ Number value = sym (e ∙ ap (item line) (rest at)) ∙ q in
       let more : length old - i ≡ suc (length old - (i + 1)) = omega (arith, f .long) in
       let onwards : leading line (length old - i) (drop at input) ≡ value ∷ leading line (length old - (i + 1)) (drop (at + step) input)
@@ -67,13 +68,14 @@ module _ (line : Bool) (input old : List ℕ) where
   none-here : (new : List ℕ) (at i : ℕ) (r : Field) → r ≡ item line (take (length input - at) (drop at input)) → r ≡ Malformed
       → leading line (length old - i) (drop at input) ≡ []
   unfolding leading before
-  none-here new at i r e q = go (length old - i)
+  none-here new at i r e q = none-here-by-cases (length old - i)
     where
-      go : (k : ℕ) → leading line k (drop at input) ≡ []
-      go zero = refl
-      go (suc k) = rw (sym (e ∙ ap (item line) (rest at)) ∙ q)
+      none-here-by-cases : (k : ℕ) → leading line k (drop at input) ≡ []
+      none-here-by-cases zero = refl
+      none-here-by-cases (suc k) = rw (sym (e ∙ ap (item line) (rest at)) ∙ q)
 
-  none-wanted : (new : List ℕ) (at i : ℕ) → length new ≤ i → Found line input old new at i → leading line (length old - i) (drop at input) ≡ []
+  none-wanted : (new : List ℕ) (at i : ℕ) → length new ≤ i → Found line input old new at i
+      → leading line (length old - i) (drop at input) ≡ []
   unfolding leading
   none-wanted new at i h f = let none : length old - i ≡ 0 = omega (arith, f .long) in rw none
 
@@ -85,11 +87,13 @@ module _ (line : Bool) (input old : List ℕ) where
       → Found line input old new at i → new ≡ in-front (leading line (length old) input) old
   stops-left new at i r e q f = left new at i (none-here new at i r e q) f
 
-  pub ends-counted : (new : List ℕ) (at i : ℕ) → length new ≤ i → Found line input old new at i → i ≡ length (leading line (length old) input)
-  ends-counted new at i h f = counted new at i (none-wanted new at i h f) f
+  pub found-counted : (new : List ℕ) (at i : ℕ) → length new ≤ i → Found line input old new at i
+      → i ≡ length (leading line (length old) input)
+  found-counted new at i h f = counted new at i (none-wanted new at i h f) f
 
-  pub ends-left : (new : List ℕ) (at i : ℕ) → length new ≤ i → Found line input old new at i → new ≡ in-front (leading line (length old) input) old
-  ends-left new at i h f = left new at i (none-wanted new at i h f) f
+  pub found-left : (new : List ℕ) (at i : ℕ) → length new ≤ i → Found line input old new at i
+      → new ≡ in-front (leading line (length old) input) old
+  found-left new at i h f = left new at i (none-wanted new at i h f) f
 
   -- the number is a byte, and the next position is in the input
   pub number-fits : (at value : ℕ) (r : Field) → r ≡ item line (take (length input - at) (drop at input)) → r ≡ Number value → Fits w8 value

@@ -1,4 +1,4 @@
--- A field or a line in front of the input. Assumes nothing.
+-- A field or a line in front of the input.
 use mathlib.Core.Path.{_≡_, refl, sym}
 use mathlib.Core.Bool.{Bool, true, false, not, cond, true≢false}
 use mathlib.Core.List.{List, [], _∷_}
@@ -45,7 +45,8 @@ four-within false bytes least e h = omega arith
 pub four-lent : (line : Bool) (bytes : List ℕ) (least : ℕ) → least ≡ size line → least ≤ length bytes → 4 ≡ length (take 4 bytes)
 four-lent line bytes least e h = sym (length-take-le 4 bytes (four-within line bytes least e h))
 
-pub feed-within : (line : Bool) (bytes : List ℕ) (least : ℕ) → least ≡ size line → least ≤ length bytes → not line ≡ false → 4 < length bytes
+pub feed-within : (line : Bool) (bytes : List ℕ) (least : ℕ) → least ≡ size line → least ≤ length bytes → not line ≡ false
+    → 4 < length bytes
 unfolding size
 feed-within true bytes least e h q = omega arith
 feed-within false bytes least e h q = absurd (true≢false q)
@@ -62,8 +63,9 @@ unfolding item size
 item-found false bytes value e =
     let known = number-found 4 255 (take 4 bytes) value e in
     (omega (arith, length-take 4 bytes, known .0), known .1)
-item-found true bytes value e = go (eqb (getD bytes 4 0) 10) refl e
+item-found true bytes value e = item-found-by-cases (eqb (getD bytes 4 0) 10) refl e
   where
-    go : (t : Bool) → eqb (getD bytes 4 0) 10 ≡ t → cond (not t) Malformed (field-of 4 255 (take 4 bytes)) ≡ Number value → (5 ≤ length bytes) × (value ≤ 255)
-    go false q e = let z : _≡_ {A = ℕ} 0 1 = cc in absurd (omega arith)
-    go true q e = (feed-there bytes 4 (eqb-true _ _ q), number-found 4 255 (take 4 bytes) value e .1)
+    item-found-by-cases : (t : Bool) → eqb (getD bytes 4 0) 10 ≡ t → cond (not t) Malformed (field-of 4 255 (take 4 bytes)) ≡ Number value
+        → (5 ≤ length bytes) × (value ≤ 255)
+    item-found-by-cases false q e = let z : _≡_ {A = ℕ} 0 1 = cc in absurd (omega arith)
+    item-found-by-cases true q e = (feed-there bytes 4 (eqb-true _ _ q), number-found 4 255 (take 4 bytes) value e .1)

@@ -1,5 +1,5 @@
--- A case sheet: a line of ten numbers, then at most 256 lines of one table entry, each number in 4 columns and at most 255, each line ended by a line feed (10).
--- Assumes nothing: these are definitions.
+-- A case sheet: a line of ten numbers, then at most 256 lines of one table entry, each number in 4 columns and at most 255, each line
+-- ended by a line feed (10).
 use mathlib.Core.Bool.{Bool, true, false, _&&_, not, cond}
 use mathlib.Core.List.{List, [], _∷_}
 use Prim.Native.Nat.{ℕ, zero, suc, _+_, _*_}
@@ -43,8 +43,8 @@ unfoldable pub well-formed : List ℕ → Bool
 well-formed input = complete (length (numbers-of input)) (length (table-of input)) input
 
 -- the case line's numbers in their order
-unfoldable pub case-of : List ℕ → Case
-case-of numbers =
+unfoldable pub case-read : List ℕ → Case
+case-read numbers =
     record {
       method = getD numbers 0 0;
       n = getD numbers 1 0;
@@ -59,11 +59,11 @@ case-of numbers =
     }
 
 unfoldable pub accepted : (numbers : List ℕ) → (entries : ℕ) → Sheet
-accepted numbers entries = record { malformed = false; case = case-of numbers; entries = entries }
+accepted numbers entries = record { malformed = false; case = case-read numbers; entries = entries }
 
 -- an input of another form: every number is 0
 unfoldable pub refused : Sheet
-refused = record { malformed = true; case = case-of []; entries = 0 }
+refused = record { malformed = true; case = case-read []; entries = 0 }
 
 unfoldable pub sheet-of : List ℕ → Sheet
 sheet-of input = cond (well-formed input) (accepted (numbers-of input) (length (table-of input))) refused

@@ -2,8 +2,9 @@
 ghost use mathlib.Core.Path.{_≡_};
 ghost use Prim.Native.Nat.{_≤_, _<_};
 ghost use lib.ListN.{length, getD};
-ghost use Rattle.log.specs.Written.{in-front};
-ghost use Rattle.case_sheet.specs.Sheet.{item as Sheet·item, size as Sheet·size, leading as Sheet·leading, complete as Sheet·complete, accepted as Sheet·accepted, refused as Sheet·refused, table-of, sheet-of};
+ghost use Rattle.buffers.specs.Written.{in-front};
+ghost use Rattle.case_sheet.specs.Sheet.{item as Sheet·item, size as Sheet·size, leading as Sheet·leading, complete as Sheet·complete};
+ghost use Rattle.case_sheet.specs.Sheet.{accepted as Sheet·accepted, refused as Sheet·refused, table-of, sheet-of};
 use field::Field;
 use lookup::Case;
 
@@ -14,7 +15,8 @@ pub struct Sheet {
     pub entries: usize,
 }
 
-// Reads the whole sheet. The entries of the table's lines stand in front in the table, up to the first that is malformed; the rest of the table is unchanged.
+// Reads the whole sheet. The entries of the table's lines stand in front in the table, up to the first that is malformed; the rest of
+// the table is unchanged.
 pub fn read(input: &[u8], table: &mut [u8; 256]) -> Sheet
     ensures { λ r. ⌜ r ≡ sheet-of (now (input .entry)) ⌝ }
     ensures { λ _. ⌜ now (table .exit) ≡ in-front (table-of (now (input .entry))) (now (table .entry)) ⌝ }
@@ -34,7 +36,8 @@ pub fn read(input: &[u8], table: &mut [u8; 256]) -> Sheet
 // Reads the fields or lines in front, as many as there is room for the numbers, up to the first that is malformed.
 fn leading(input: &[u8], line: bool, numbers: &mut [u8]) -> usize
     ensures { λ r. ⌜ r ≡ length (Sheet·leading line (length (now (numbers .entry))) (now (input .entry))) ⌝ }
-    ensures { λ _. ⌜ now (numbers .exit) ≡ in-front (Sheet·leading line (length (now (numbers .entry))) (now (input .entry))) (now (numbers .entry)) ⌝ }
+    ensures { λ _. ⌜ now (numbers .exit) ≡ in-front (Sheet·leading line (length (now (numbers .entry))) (now (input .entry)))
+        (now (numbers .entry)) ⌝ }
 {
     let step = size(line);
     let mut at = 0;
@@ -73,7 +76,8 @@ fn size(line: bool) -> usize
     if line { 5 } else { 4 }
 }
 
-// Ten numbers, a line feed, table lines, and nothing behind them. The case line is there, and there are at most 256 entries, so it has a `requires`.
+// Ten numbers, a line feed, table lines, and nothing behind them. The case line is there, and there are at most 256 entries, so it has
+// a `requires`.
 fn complete(fields: usize, entries: usize, input: &[u8]) -> bool
     requires { ⌜ (41 ≤ length (now input)) × (entries ≤ 256) ⌝ }
     ensures { λ r. ⌜ r ≡ Sheet·complete fields entries (now (input .entry)) ⌝ }

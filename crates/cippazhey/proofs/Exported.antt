@@ -1,4 +1,4 @@
--- The exported number fits 16 bits, since refusal and share have eight bits each. Assumes nothing.
+-- The exported number fits 16 bits, since refusal and share have eight bits each.
 use mathlib.Core.Path.{_≡_, ap}
 use mathlib.Core.List.{List}
 use Prim.Native.Nat.{ℕ, _+_, _*_, _≤_, _<_}
@@ -12,7 +12,7 @@ use Rattle.calls.proofs.Sizes.{reply-sizes}
 use Rattle.cippazhey.specs.Export.{exported}
 
 module _ (r : Called) (c : Case) (table scratch : List ℕ) (e : r ≡ plain-reply c table scratch) where
-  number : r .refusal ≤ 13
+  number : r .refusal ≤ 255
   number = rw (← e) at (reply-sizes c table scratch .0)
 
   share : r .share < 256

@@ -1,4 +1,4 @@
--- The one 16-bit number that the C host gets: refusal × 256 + share. Assumes nothing: this is a definition.
+-- The one 16-bit number that the C host gets: refusal × 256 + share.
 use Prim.Native.Nat.{ℕ, _+_, _*_}
 use Rattle.lookup.specs.declared.Called.{Called}
 

@@ -1,6 +1,6 @@
 // What C links: the plain call as one 16-bit number, refusal × 256 + share. include/cippazhey.h declares it.
 ghost use mathlib.Core.Path.{_≡_};
-ghost use Rattle.calls.specs.Reply.{case as Reply·case, plain-reply, plain-scratch};
+ghost use Rattle.calls.specs.Reply.{case-from, plain-reply, plain-scratch};
 ghost use Rattle.cippazhey.specs.Export.{exported};
 
 #[no_mangle]
@@ -18,8 +18,9 @@ pub extern "C" fn cippazhey_plain_call(
     table: &[u8],
     scratch: &mut [u8],
 ) -> u16
-    ensures { λ r. ⌜ r ≡ exported (plain-reply (Reply·case method n m x0 r1 r2 s1 s2 r3 b) (now (table .entry)) (now (scratch .entry))) ⌝ }
-    ensures { λ _. ⌜ now (scratch .exit) ≡ plain-scratch (Reply·case method n m x0 r1 r2 s1 s2 r3 b) (now (table .entry)) (now (scratch .entry)) ⌝ }
+    ensures { λ r. ⌜ r ≡ exported (plain-reply (case-from method n m x0 r1 r2 s1 s2 r3 b) (now (table .entry)) (now (scratch .entry))) ⌝ }
+    ensures { λ _. ⌜ now (scratch .exit) ≡ plain-scratch (case-from method n m x0 r1 r2 s1 s2 r3 b) (now (table .entry))
+        (now (scratch .entry)) ⌝ }
 {
     let called = calls::plain_call(method, n, m, x0, r1, r2, s1, s2, r3, b, table, scratch);
     (called.refusal * 256 + called.share) as u16

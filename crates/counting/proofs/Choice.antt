@@ -1,4 +1,4 @@
--- The laws of choices: which lie within their widths, and what changing one mask does. Assumes nothing.
+-- The laws of choices: which lie within their widths, and what changing one mask does.
 use mathlib.Core.Path.{_≡_, refl, ap, fun-ext, _∙_}
 use mathlib.Core.List.{List, [], _∷_}
 use Prim.Native.Nat.{ℕ, zero, suc, _^_, _<_}

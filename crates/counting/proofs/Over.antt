@@ -1,4 +1,4 @@
--- The laws of sums over all choices of masks. Assumes nothing.
+-- The laws of sums over all choices of masks.
 use mathlib.Core.Path.{_≡_, refl, sym, ap, fun-ext, _∙_}
 use mathlib.Core.List.{List, [], _∷_}
 use Prim.Native.Nat.{ℕ, zero, suc, _+_, _^_, _<_}
@@ -48,11 +48,13 @@ pub over-shift : (ws : List ℕ) (f : (ℕ → ℕ) → ℕ) (d : ℕ → ℕ) �
 unfolding over width
 over-shift [] f d k = ap f (fun-ext (λ i. zero-l (d i) ∙ omega (arith, k .each i)))
 over-shift (w ∷ ws) f d k =
-    sum-ext (2 ^ w) (λ r _. over-ext ws (λ c _. ap f (sym (first-rest (λ i. (r ▸ c) i ⊕ d i)))) ∙ over-shift ws (λ c. f (r ⊕ d 0 ▸ c)) (λ i. d (suc i)) (within-rest k))
+    sum-ext (2 ^ w) (λ r _. over-ext ws (λ c _. ap f (sym (first-rest (λ i. (r ▸ c) i ⊕ d i))))
+    ∙ over-shift ws (λ c. f (r ⊕ d 0 ▸ c)) (λ i. d (suc i)) (within-rest k))
     ∙ shift w (λ r. over ws (λ c. f (r ▸ c))) (k .each 0)
 
 -- one mask shifted
-pub over-shift-one : (ws : List ℕ) (i : ℕ) (f : (ℕ → ℕ) → ℕ) {d : ℕ} → d < 2 ^ width ws i → over ws (λ c. f (change i (c i ⊕ d) c)) ≡ over ws f
+pub over-shift-one : (ws : List ℕ) (i : ℕ) (f : (ℕ → ℕ) → ℕ) {d : ℕ} → d < 2 ^ width ws i
+    → over ws (λ c. f (change i (c i ⊕ d) c)) ≡ over ws f
 over-shift-one ws i f {d} h =
     over-local ws i (λ c. f (change i (c i ⊕ d) c)) f (λ c k. simp (change-at, change-twice) (shift (width ws i) (λ r. f (change i r c)) h))
 

@@ -1,5 +1,4 @@
 -- Exclusive or with a number of the width only puts the numbers of that width in another order: no sum over all of them changes.
--- Assumes nothing.
 use mathlib.Core.Path.{_≡_, sym, ap, _∙_}
 use Prim.Native.Nat.{ℕ, zero, suc, _+_, _*_, _/_, _%_, _^_, _<_}
 use native.Mathlib.Nat.{add-comm, add-zero, pow-suc, div-add-mod', mod-lt}

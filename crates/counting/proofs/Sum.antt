@@ -1,4 +1,4 @@
--- The laws of finite sums. Assumes nothing.
+-- The laws of finite sums.
 use mathlib.Core.Path.{_≡_, refl, sym, ap₂, _∙_}
 use mathlib.Core.Bool.{cond}
 use Prim.Native.Nat.{ℕ, zero, suc, _+_, _*_, _<_}
@@ -48,4 +48,5 @@ sum-first (suc k) f = rw (sum-first k f) (add-assoc _ _ _)
 pub sum-one : (k x : ℕ) (f : ℕ → ℕ) → x < k → sum k (λ i. cond (eqb x i) 1 0 * f i) ≡ f x
 sum-one zero x f h = absurd (not-suc-le-zero h)
 sum-one (suc k) zero f h = sum-first k _ ∙ simp (eqb·zero-suc, zero-mul) (omega (arith, sum-const k 0))
-sum-one (suc k) (suc x) f h = sum-first k _ ∙ simp (eqb·suc-zero, eqb·suc-suc, zero-mul, zero-add) (sum-one k x (λ i. f (suc i)) (le-of-suc-le-suc h))
+sum-one (suc k) (suc x) f h =
+    sum-first k _ ∙ simp (eqb·suc-zero, eqb·suc-suc, zero-mul, zero-add) (sum-one k x (λ i. f (suc i)) (le-of-suc-le-suc h))

@@ -1,5 +1,4 @@
 -- A choice gives each mask, by its place, a number. Here are the choices of given widths, and the sum over all of them.
--- Assumes nothing: these are definitions.
 use mathlib.Core.List.{List, [], _∷_}
 use Prim.Native.Nat.{ℕ, zero, suc, _+_, _^_, _<_}
 use lib.ListN.{getD}

@@ -1,4 +1,4 @@
--- The sum of a function's first values. Assumes nothing: these are definitions.
+-- The sum of a function's first values.
 use Prim.Native.Nat.{ℕ, zero, suc, _+_}
 
 -- f 0 + f 1 + .. + f (limit - 1)

@@ -1,4 +1,4 @@
--- How a number is printed: its last digit first, and what is left of it before that. Assumes nothing.
+-- How a number is printed: its last digit first, and what is left of it before that.
 use mathlib.Core.Path.{_≡_, refl, sym, _∙_}
 use mathlib.Core.List.{List, [], _∷_, _++_, append-assoc, append-nil}
 use Prim.Native.Nat.{ℕ, zero, suc, _+_, _-_, _/_, _%_, _≤_, _<_}
@@ -6,7 +6,7 @@ use native.Mathlib.Nat.{add-zero}
 use native.Mathlib.Omega.{arith}
 use lib.ListN.{length, take, drop, set, take-append-drop, length-append, length-set}
 use lib.Seq.{take-set-le, set-split, drop-at, length-take-le}
-use Rattle.log.specs.Written.{written}
+use Rattle.buffers.specs.Written.{written}
 use Rattle.field.specs.Printed.{mark, front, printed}
 
 pub front-long : (columns left : ℕ) → length (front columns left) ≡ columns
@@ -17,10 +17,12 @@ front-long (suc columns) left = length-append (front columns (left / 10)) (mark 
 pub printed-long : (columns value : ℕ) → length (printed columns value) ≡ columns
 unfolding printed
 printed-long zero value = refl
-printed-long (suc columns) value = length-append (front columns (value / 10)) ((48 + value % 10) ∷ []) ∙ omega (arith, front-long columns (value / 10))
+printed-long (suc columns) value =
+    length-append (front columns (value / 10)) ((48 + value % 10) ∷ []) ∙ omega (arith, front-long columns (value / 10))
 
 -- what is written last may be set first
-last-first : (old new : List ℕ) (at k x : ℕ) → length new ≡ k → at + k < length old → written old at (new ++ (x ∷ [])) ≡ written (set old (at + k) x) at new
+last-first : (old new : List ℕ) (at k x : ℕ) → length new ≡ k → at + k < length old
+    → written old at (new ++ (x ∷ [])) ≡ written (set old (at + k) x) at new
 unfolding written
 last-first old new at k x e h =
     let behind : drop (at + k) (set old (at + k) x) ≡ x ∷ drop (suc (at + k)) old
@@ -38,32 +40,37 @@ pub record Printing (before now : List ℕ) (at columns value i left : ℕ) : Ty
   pub within : i ≤ columns
   pub long : length now ≡ length before
 
-pub begins : (before : List ℕ) (at columns value : ℕ) → Printing before before at columns value columns value
-begins before at columns value = record { rest = refl; within = omega arith; long = refl }
+pub printing-begins : (before : List ℕ) (at columns value : ℕ) → Printing before before at columns value columns value
+printing-begins before at columns value = record { rest = refl; within = omega arith; long = refl }
 
-pub turns : (before now : List ℕ) (at columns value i left m : ℕ) → at + columns ≤ length before → 0 < i → m ≡ mark left → Printing before now at columns value i left
+pub printing-turns : (before now : List ℕ) (at columns value i left m : ℕ) → at + columns ≤ length before → 0 < i → m ≡ mark left
+    → Printing before now at columns value i left
     → Printing before (set now (at + (i - 1)) m) at columns value (i - 1) (left / 10)
 unfolding front
-turns before now at columns value zero left m room h e p = absurd (omega arith)
-turns before now at columns value (suc k) left m room h e p =
+printing-turns before now at columns value zero left m room h e p = absurd (omega arith)
+printing-turns before now at columns value (suc k) left m room h e p =
     let less : suc k - 1 ≡ k = omega arith in
     record {
-      rest = rw (less, e) (sym (last-first now (front k (left / 10)) at k (mark left) (front-long k (left / 10)) (omega (arith, p .long, p .within))) ∙ p .rest);
+      rest =
+          rw (less, e) (sym (last-first now (front k (left / 10)) at k (mark left) (front-long k (left / 10))
+          (omega (arith, p .long, p .within))) ∙ p .rest);
       within = omega (arith, p .within);
       long = simp length-set (p .long);
     }
 
-pub ends : (before now : List ℕ) (at columns value i left : ℕ) → i ≤ 0 → Printing before now at columns value i left → now ≡ written before at (front columns value)
+pub printing-ends : (before now : List ℕ) (at columns value i left : ℕ) → i ≤ 0 → Printing before now at columns value i left
+    → now ≡ written before at (front columns value)
 unfolding front
-ends before now at columns value zero left h p = sym (none-left now at) ∙ p .rest
-ends before now at columns value (suc i) left h p = absurd (omega arith)
+printing-ends before now at columns value zero left h p = sym (none-left now at) ∙ p .rest
+printing-ends before now at columns value (suc i) left h p = absurd (omega arith)
 
 -- the last digit, and then what stands before it
-pub whole : (before now : List ℕ) (at columns value : ℕ) → 0 < columns → at + columns ≤ length before
-    → now ≡ written (set before (at + (columns - 1)) (48 + value % 10)) at (front (columns - 1) (value / 10)) → now ≡ written before at (printed columns value)
+pub printing-whole : (before now : List ℕ) (at columns value : ℕ) → 0 < columns → at + columns ≤ length before
+    → now ≡ written (set before (at + (columns - 1)) (48 + value % 10)) at (front (columns - 1) (value / 10))
+    → now ≡ written before at (printed columns value)
 unfolding printed
-whole before now at zero value h room e = absurd (omega arith)
-whole before now at (suc k) value h room e =
+printing-whole before now at zero value h room e = absurd (omega arith)
+printing-whole before now at (suc k) value h room e =
     let less : suc k - 1 ≡ k = omega arith in
     (rw less at e) ∙ sym (last-first before (front k (value / 10)) at k (48 + value % 10) (front-long k (value / 10)) (omega arith))
 

@@ -1,4 +1,4 @@
--- The promise of specs/Promises.antt, proved. Assumes nothing.
+-- The promise of specs/Promises.antt, proved.
 use mathlib.Core.Path.{_≡_, refl, ap, _∙_}
 use mathlib.Core.Bool.{Bool, true, false, _&&_, cond}
 use mathlib.Core.List.{List, [], _∷_, _++_, append-assoc}
@@ -51,7 +51,8 @@ one-more columns zero d bytes h z e =
     rw (spaces-off columns ((48 + d) ∷ bytes), other-on (48 + d) bytes (omega arith), ne-eqb (48 + d) 48 (omega arith)) (digit-on 0 d bytes h)
 one-more columns (suc u) d bytes h z e = e (omega arith) ∙ digit-on (suc u) d bytes h
 
-front-read : (columns value : ℕ) (bytes : List ℕ) → 0 < value → value < 10 ^ columns → number (unspaced (front columns value ++ bytes)) ≡ decimal value bytes
+front-read : (columns value : ℕ) (bytes : List ℕ) → 0 < value → value < 10 ^ columns
+    → number (unspaced (front columns value ++ bytes)) ≡ decimal value bytes
 unfolding front mark
 front-read zero value bytes z h = absurd (omega arith)
 front-read (suc columns) value bytes z h =
@@ -65,11 +66,11 @@ front-read (suc columns) value bytes z h =
 last-read : (columns u d : ℕ) → d < 10 → u < 10 ^ columns → number (unspaced (front columns u ++ (48 + d) ∷ [])) ≡ Number (u * 10 + d)
 unfolding number decimal
 last-read columns zero d h l =
-    rw (spaces-off columns ((48 + d) ∷ []), other-on (48 + d) [] (omega arith)) (go (eqb (48 + d) 48) ∙ digit-on 0 d [] h)
+    rw (spaces-off columns ((48 + d) ∷ []), other-on (48 + d) [] (omega arith)) (last-read-by-cases (eqb (48 + d) 48) ∙ digit-on 0 d [] h)
   where
-    go : (t : Bool) → cond (t && false) Malformed (decimal 0 ((48 + d) ∷ [])) ≡ decimal 0 ((48 + d) ∷ [])
-    go true = refl
-    go false = refl
+    last-read-by-cases : (t : Bool) → cond (t && false) Malformed (decimal 0 ((48 + d) ∷ [])) ≡ decimal 0 ((48 + d) ∷ [])
+    last-read-by-cases true = refl
+    last-read-by-cases false = refl
 last-read columns (suc u) d h l = front-read columns (suc u) ((48 + d) ∷ []) (omega arith) l ∙ digit-on (suc u) d [] h
 
 pub read-back : Read-back

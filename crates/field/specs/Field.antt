@@ -1,5 +1,4 @@
 -- A field: a number right-justified by spaces in its columns, without leading zeros. Bytes are ASCII: 32 is a space, 48 to 57 are the digits.
--- Assumes nothing: these are definitions.
 use mathlib.Core.Bool.{Bool, _&&_, cond}
 use mathlib.Core.List.{List, [], _∷_}
 use Prim.Native.Nat.{ℕ, suc, _+_, _*_, _-_}

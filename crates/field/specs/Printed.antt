@@ -1,4 +1,4 @@
--- A number printed in columns. Assumes nothing: these are definitions.
+-- A number printed in columns.
 use mathlib.Core.Bool.{cond}
 use mathlib.Core.List.{List, [], _∷_, _++_}
 use Prim.Native.Nat.{ℕ, zero, suc, _+_, _/_, _%_}

@@ -1,4 +1,4 @@
--- What is promised of numbers in columns. It is a type; its proof stands in proofs/Promises.antt. Assumes nothing.
+-- What is promised of numbers in columns. It is a type; its proof stands in proofs/Promises.antt.
 use mathlib.Core.Path.{_≡_}
 use Prim.Native.Nat.{ℕ, _^_, _≤_, _<_}
 use Rattle.field.specs.declared.Field.the-variants.{Number}
@@ -8,4 +8,5 @@ use Rattle.field.specs.Printed.{printed}
 -- what is printed of a number that has room in its columns is read back
 unfoldable pub Read-back : Type 0
 Read-back =
-    (columns most value : ℕ) → 0 < columns → value < 10 ^ columns → value ≤ most → field-of columns most (printed columns value) ≡ Number value
+    (columns most value : ℕ) → 0 < columns → value < 10 ^ columns → value ≤ most
+    → field-of columns most (printed columns value) ≡ Number value

@@ -2,8 +2,9 @@
 ghost use mathlib.Core.Path.{_≡_};
 ghost use Prim.Native.Nat.{_+_, _≤_, _<_};
 ghost use lib.ListN.{length};
-ghost use Rattle.log.specs.Written.{written};
-ghost use Rattle.field.specs.Field.{digit as Field·digit, decimal as Field·decimal, number as Field·number, spaces as Field·spaces, up-to, field-of};
+ghost use Rattle.buffers.specs.Written.{written};
+ghost use Rattle.field.specs.Field.{digit as Field·digit, decimal as Field·decimal, number as Field·number};
+ghost use Rattle.field.specs.Field.{spaces as Field·spaces, up-to, field-of};
 ghost use Rattle.field.specs.Printed.{mark as Printed·mark, front, printed};
 
 // What reading a field finds: its number, or that it is of another form.

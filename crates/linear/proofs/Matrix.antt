@@ -1,4 +1,4 @@
--- The laws of the map, and what its loop keeps. Assumes nothing.
+-- The laws of the map, and what its loop keeps.
 use mathlib.Core.Path.{_≡_, sym, ap, ap₂, _∙_}
 use mathlib.Core.List.{List, [], _∷_}
 use Prim.Native.Nat.{ℕ, suc, _+_, _*_, _%_, _^_, _≤_, _<_}
@@ -35,20 +35,21 @@ pub record Mapping (rows : List ℕ) (x i output : ℕ) : Type 0 where
   pub low : output < 2 ^ i
   pub whole : output + mapped (drop i rows) x * 2 ^ i ≡ mapped rows x
 
-pub begins : (rows : List ℕ) (x : ℕ) → Mapping rows x 0 0
-begins rows x = record { within = omega arith; low = lit< tt; whole = zero-add _ ∙ mul-one _ }
+pub mapping-begins : (rows : List ℕ) (x : ℕ) → Mapping rows x 0 0
+mapping-begins rows x = record { within = omega arith; low = lit< tt; whole = zero-add _ ∙ mul-one _ }
 
 bit-above : {odd output p : ℕ} → odd < 2 → output < p → odd * p + output < p * 2
 bit-above h k = omega (arith, digits-lt h k)
 
-one-more : (odd output p high rest whole : ℕ) → rest ≡ high * 2 + odd → output + rest * p ≡ whole → odd * p + output + high * (p * 2) ≡ whole
+one-more : (odd output p high rest whole : ℕ) → rest ≡ high * 2 + odd → output + rest * p ≡ whole
+    → odd * p + output + high * (p * 2) ≡ whole
 one-more odd output p high rest whole e f = omega (arith, ap (λ r. output + r * p) e)
 
 -- one row more
-pub turns : (rows : List ℕ) (x i output : ℕ) → length rows ≤ 8 → i < length rows → Mapping rows x i output
+pub mapping-turns : (rows : List ℕ) (x i output : ℕ) → length rows ≤ 8 → i < length rows → Mapping rows x i output
     → Mapping rows x (i + 1) (bitOr output ((odd-common (getD rows i 0) x * 2 ^ i) % 2 ^ 32))
 unfolding mapped
-turns rows x i output few h m =
+mapping-turns rows x i output few h m =
     let odd = odd-common (getD rows i 0) x in
     let small : odd < 2 = odd-common-below (getD rows i 0) x in
     let next : bitOr output ((odd * 2 ^ i) % 2 ^ 32) ≡ odd * 2 ^ i + output
@@ -61,6 +62,6 @@ turns rows x i output few h m =
       whole = rw (pow-suc 2 i) (one-more odd output (2 ^ i) _ _ _ rest (m .whole));
     })
 
-pub ends : (rows : List ℕ) (x i output : ℕ) → length rows ≤ i → Mapping rows x i output → output ≡ mapped rows x
+pub mapping-ends : (rows : List ℕ) (x i output : ℕ) → length rows ≤ i → Mapping rows x i output → output ≡ mapped rows x
 unfolding mapped
-ends rows x i output h m = sym (add-zero output) ∙ (rw (drop-of-length-le rows h, zero-mul) at (m .whole))
+mapping-ends rows x i output h m = sym (add-zero output) ∙ (rw (drop-of-length-le rows h, zero-mul) at (m .whole))

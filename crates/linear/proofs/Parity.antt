@@ -1,4 +1,4 @@
--- Whether row and input have an odd number of ones in common is linear over ⊕. Assumes nothing.
+-- Whether row and input have an odd number of ones in common is linear over ⊕.
 use mathlib.Core.Path.{_≡_, refl, sym, ap, ap₂, _∙_}
 use Prim.Native.Nat.{ℕ, _/_, _%_, _<_, min}
 use native.Mathlib.Nat.{mod-lt, zero-min}

@@ -1,4 +1,4 @@
--- What is promised of the linear layer holds. Assumes nothing.
+-- What is promised of the linear layer holds.
 use mathlib.Core.Path.{sym, _∙_}
 use Prim.Native.Nat.{ℕ, _^_, _<_}
 use Rattle.bits.specs.Xor.{_⊕_}

@@ -1,4 +1,4 @@
--- The layer's checks, as the code goes through them, and what an accepted layer knows. Assumes nothing.
+-- The layer's checks, as the code goes through them, and what an accepted layer knows.
 use mathlib.Core.Path.{_≡_, sym, _∙_}
 use mathlib.Core.Bool.{Bool, true, false, _||_}
 use mathlib.Core.List.{List, [], _∷_}
@@ -10,7 +10,7 @@ use lib.Dec.{leb}
 use lib.ListN.{length}
 use Rattle.refusals.specs.Checks.{_when_, first-of}
 use Rattle.refusals.specs.Tests.{outside, any-from}
-use Rattle.refusals.proofs.Checks.{stops, goes, ends, passed}
+use Rattle.refusals.proofs.Checks.{stops, goes, none-applies, passed}
 use Rattle.refusals.proofs.Tests.{inside, not-outside, neither}
 use Rattle.linear.specs.Layer.{layer-refusal}
 
@@ -28,11 +28,13 @@ module _ (n m : ℕ) (rows : List ℕ) (k a b c : ℕ) where
   at-8 p q t = goes 3 _ p (goes 4 _ q (stops 8 _ (rw (ne-eqb _ _ t))))
 
   after-8 : {r : ℕ} → outside 1 8 n ≡ false → outside 1 n m ≡ false → length rows ≡ m
-      → r ≡ first-of (9 when (any-from (2 ^ n) rows || leb (2 ^ m) k) ∷ 10 when (any-from (2 ^ n) (a ∷ b ∷ c ∷ [])) ∷ []) → r ≡ layer-refusal n m rows k a b c
+      → r ≡ first-of (9 when (any-from (2 ^ n) rows || leb (2 ^ m) k) ∷ 10 when (any-from (2 ^ n) (a ∷ b ∷ c ∷ [])) ∷ [])
+      → r ≡ layer-refusal n m rows k a b c
   unfolding layer-refusal
   after-8 p q e h = goes 3 _ p (goes 4 _ q (goes 8 _ (rw (eq-eqb _ _ e)) h))
 
-  pub at-9-row : outside 1 8 n ≡ false → outside 1 n m ≡ false → length rows ≡ m → any-from (2 ^ n) rows ≡ true → 9 ≡ layer-refusal n m rows k a b c
+  pub at-9-row : outside 1 8 n ≡ false → outside 1 n m ≡ false → length rows ≡ m → any-from (2 ^ n) rows ≡ true
+      → 9 ≡ layer-refusal n m rows k a b c
   at-9-row p q e t = after-8 p q e (stops 9 _ (rw t))
 
   pub at-9-constant : outside 1 8 n ≡ false → outside 1 n m ≡ false → length rows ≡ m → any-from (2 ^ n) rows ≡ false → 2 ^ m ≤ k
@@ -45,7 +47,7 @@ module _ (n m : ℕ) (rows : List ℕ) (k a b c : ℕ) where
 
   pub at-end : outside 1 8 n ≡ false → outside 1 n m ≡ false → length rows ≡ m → any-from (2 ^ n) rows ≡ false → k < 2 ^ m
       → any-from (2 ^ n) (a ∷ b ∷ c ∷ []) ≡ false → 0 ≡ layer-refusal n m rows k a b c
-  at-end p q e f l t = after-8 p q e (goes 9 _ (rw (f, lt-leb _ _ l)) (goes 10 _ t ends))
+  at-end p q e f l t = after-8 p q e (goes 9 _ (rw (f, lt-leb _ _ l)) (goes 10 _ t none-applies))
 
   -- an accepted layer's widths and numbers
   pub record Accepted : Type 0 where

@@ -1,4 +1,4 @@
--- The linear layer on shares, with refusals 3, 4, 8, 9 and 10. Assumes nothing: these are definitions.
+-- The linear layer on shares, with refusals 3, 4, 8, 9 and 10.
 use mathlib.Core.Bool.{_||_, not}
 use mathlib.Core.List.{List, [], _∷_}
 use Prim.Native.Nat.{ℕ, _+_, _*_, _%_, _^_}

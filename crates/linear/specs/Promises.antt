@@ -1,4 +1,4 @@
--- What is promised of the linear layer. Each is a type; its proof stands in proofs/Promises.antt. Assumes nothing.
+-- What is promised of the linear layer. Each is a type; its proof stands in proofs/Promises.antt.
 use mathlib.Core.Path.{_≡_}
 use mathlib.Core.List.{List}
 use Prim.Native.Nat.{ℕ}

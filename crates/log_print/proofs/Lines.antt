@@ -1,4 +1,4 @@
--- How a line is printed, number by number. Assumes nothing.
+-- How a line is printed, number by number.
 use mathlib.Core.Path.{_≡_, refl, sym, ap, _∙_}
 use mathlib.Core.List.{List, [], _∷_, _++_, append-assoc}
 use Prim.Native.Nat.{ℕ, _+_, _*_, _≤_, _<_}
@@ -6,8 +6,8 @@ use native.Mathlib.Numerals.{add-one}
 use native.Mathlib.Omega.{arith}
 use lib.ListN.{length, set, length-append}
 use lib.Seq.{set-split}
-use Rattle.log.specs.Written.{written, in-front}
-use Rattle.log.proofs.Written.{written-more, written-long, written-front}
+use Rattle.buffers.specs.Written.{written, in-front}
+use Rattle.buffers.proofs.Written.{written-more, written-long, written-front}
 use Rattle.field.specs.Printed.{printed}
 use Rattle.field.proofs.Printing.{printed-long}
 use Rattle.log_print.specs.Lines.{line-of}
@@ -32,7 +32,8 @@ module _ (old : List ℕ) (at : ℕ) (done : List ℕ) (k : ℕ) (now : List ℕ
       set-written now k 10 (omega (arith, ap length e ∙ written-long old at done (omega arith)))
       ∙ rw e (written-more old at k done (10 ∷ []) l (omega arith))
 
-pub three : (old a b c : List ℕ) (at x y z : ℕ) → at + 13 ≤ length old → a ≡ written old at (printed 4 x) → b ≡ written a (at + 4) (printed 4 y)
+pub three : (old a b c : List ℕ) (at x y z : ℕ) → at + 13 ≤ length old → a ≡ written old at (printed 4 x)
+    → b ≡ written a (at + 4) (printed 4 y)
     → c ≡ written b (at + 8) (printed 4 z) → set c (at + 12) 10 ≡ written old at (line-of (x ∷ y ∷ z ∷ []))
 unfolding line-of
 three old a b c at x y z h e f g =
@@ -41,7 +42,8 @@ three old a b c at x y z h e f g =
     let third = length-append (printed 4 x ++ printed 4 y) (printed 4 z) in
     let two = more old at (printed 4 x) (at + 4) a e (omega (arith, first)) b y (omega arith) f in
     let all = more old at (printed 4 x ++ printed 4 y) (at + 8) b two (omega (arith, first, second, printed-long 4 y)) c z (omega arith) g in
-    feed old at (printed 4 x ++ printed 4 y ++ printed 4 z) (at + 12) c all (omega (arith, first, second, third, printed-long 4 y, printed-long 4 z)) (omega arith) (omega arith)
+    feed old at (printed 4 x ++ printed 4 y ++ printed 4 z) (at + 12) c all
+    (omega (arith, first, second, third, printed-long 4 y, printed-long 4 z)) (omega arith) (omega arith)
     ∙ ap (written old at) (simp append-assoc)
 
 pub one : (old a : List ℕ) (x : ℕ) → 5 ≤ length old → a ≡ written old 0 (printed 4 x) → set a 4 10 ≡ in-front (line-of (x ∷ [])) old
@@ -52,7 +54,8 @@ pub one-long : (x : ℕ) → 5 ≡ length (line-of (x ∷ []))
 one-long x = sym (line-long (x ∷ []))
 
 -- the output is as long as it was
-pub three-same : (old a b c : List ℕ) (at x y z : ℕ) → at + 13 ≤ length old → a ≡ written old at (printed 4 x) → b ≡ written a (at + 4) (printed 4 y)
+pub three-same : (old a b c : List ℕ) (at x y z : ℕ) → at + 13 ≤ length old → a ≡ written old at (printed 4 x)
+    → b ≡ written a (at + 4) (printed 4 y)
     → c ≡ written b (at + 8) (printed 4 z) → length (set c (at + 12) 10) ≡ length old
 three-same old a b c at x y z h e f g =
     ap length (three old a b c at x y z h e f g) ∙ written-long old at _ (omega (arith, line-long (x ∷ y ∷ z ∷ [])))

@@ -1,7 +1,8 @@
--- A log's print: each number in 4 columns, each line ended by a line feed (10). Assumes nothing: these are definitions.
+-- A log's print: each number in 4 columns, each line ended by a line feed (10).
 use mathlib.Core.List.{List, [], _∷_, _++_}
-use Prim.Native.Nat.{ℕ, _+_, _/_, _%_}
+use Prim.Native.Nat.{ℕ, _+_}
 use Rattle.field.specs.Printed.{printed}
+use Rattle.lookup.specs.Entry.{kind-of, value-of}
 
 unfoldable pub line-of : List ℕ → List ℕ
 line-of [] = 10 ∷ []
@@ -10,7 +11,7 @@ line-of (number ∷ numbers) = printed 4 number ++ line-of numbers
 -- a line for each entry of a log: its position, its kind and its value
 unfoldable pub entry-lines : (position : ℕ) → (entries : List ℕ) → List ℕ
 entry-lines position [] = []
-entry-lines position (entry ∷ entries) = line-of (position ∷ entry / 256 ∷ entry % 256 ∷ []) ++ entry-lines (position + 1) entries
+entry-lines position (entry ∷ entries) = line-of (position ∷ kind-of entry ∷ value-of entry ∷ []) ++ entry-lines (position + 1) entries
 
 -- an accepted case: the log's lines, then refusal 0, the answer share and the count
 unfoldable pub answer-lines : (entries : List ℕ) → (share count : ℕ) → List ℕ

@@ -3,7 +3,8 @@ ghost use mathlib.Core.Path.{_≡_};
 ghost use mathlib.Core.List.{[], _∷_};
 ghost use Prim.Native.Nat.{_+_, _*_, _≤_};
 ghost use lib.ListN.{length};
-ghost use Rattle.log.specs.Written.{written, in-front};
+ghost use Rattle.buffers.specs.Written.{written, in-front};
+ghost use Rattle.lookup.specs.Entry.{kind-of, value-of};
 ghost use Rattle.log_print.specs.Lines.{line-of, entry-lines, answer-lines};
 
 // A refusal's number is the only line. Returns the count of bytes.
@@ -36,12 +37,18 @@ fn put_entries(output: &mut [u8], log: &[u16], first: u32)
 {
     let mut i = 0;
     while i < log.len() {
-        let entry = log[i];
-        let kind = entry / 256;
-        let value = entry % 256;
-        put_line(output, 13 * i, first + i as u32, kind as u32, value as u32);
+        put_entry(output, 13 * i, first + i as u32, log[i]);
         i += 1;
     }
+}
+
+fn put_entry(output: &mut [u8], at: usize, position: u32, entry: u16)
+    requires { ⌜ at + 13 ≤ length (now output) ⌝ }
+    ensures { λ _. ⌜ now (output .exit) ≡ written (now (output .entry)) at (line-of (position ∷ kind-of entry ∷ value-of entry ∷ [])) ⌝ }
+{
+    let kind = log_entries::kind(entry);
+    let value = log_entries::value(entry);
+    put_line(output, at, position, kind, value);
 }
 
 // Three numbers and a line feed from a position on.

@@ -1,82 +1,120 @@
--- The laws of a layout: its length, what holds of every part, and layouts whose parts agree. Assumes nothing.
-use mathlib.Core.Path.{_≡_, refl, sym, ap₂, _∙_}
-use mathlib.Core.List.{List, [], _∷_, _++_, map, append-nil, map-append}
-use Prim.Native.Nat.{ℕ, zero, suc, _+_, _*_, _<_}
-use native.Mathlib.Nat.{zero-mul, suc-mul}
+-- The laws of a layout: its length, what holds of every line, and layouts whose rows show the same.
+use mathlib.Core.Path.{_≡_, refl, ap, ap₂, _∙_}
+use mathlib.Core.List.{List, [], _∷_, _++_, map, map-append}
+use Prim.Native.Nat.{ℕ, zero, suc, _*_, _<_}
 use native.Mathlib.Omega.{arith}
-use lib.ListN.{length, getD, length-append}
-use Rattle.lookup.specs.Layout.{Layout, pass-lines, passes-lines, lines}
+use lib.ListN.{length, length-append, length-map}
+use Rattle.lookup.specs.Layout.{Layout, pass-lines, passes-lines, lines, all-rows, layout-size}
+use Rattle.lookup.proofs.Each.{Each, none, more, each-append, each-split, each-image}
 
-module _ {A : Type 0} where
-  -- as many lines in each turn
-  pub pass-long : (size k : ℕ) (pass : ℕ → List A) → ((a : ℕ) → length (pass a) ≡ size) → length (pass-lines k pass) ≡ k * size
+module _ {A B : Type 0} (show : ℕ → A → B) where
+  pub pass-long : (turns : ℕ) (pass : List A) → length (pass-lines show turns pass) ≡ length pass * turns
   unfolding pass-lines
-  pass-long size zero pass h = sym (zero-mul size)
-  pass-long size (suc k) pass h = length-append (pass-lines k pass) (pass k) ∙ rw (pass-long size k pass h, h k) (sym (suc-mul k size))
+  pass-long zero pass = omega arith
+  pass-long (suc a) pass =
+      length-append (pass-lines show a pass) (map (show a) pass) ∙ rw (pass-long a pass, length-map pass (show a)) (omega arith)
 
-  -- the length of a layout of one pass
-  pub lines-long : (size turns : ℕ) (l : Layout A) (pass : ℕ → List A) → l .passes ≡ pass ∷ [] → ((a : ℕ) → length (pass a) ≡ size)
-      → length (lines turns l) ≡ length (l .head) + turns * size + length (l .end)
-  unfolding lines passes-lines
-  lines-long size turns l pass e h =
-      length-append (l .head ++ passes-lines turns (l .passes)) (l .end)
-      ∙ rw (length-append (l .head) (passes-lines turns (l .passes)), e) (simp append-nil (rw (pass-long size turns pass h)))
+  pub passes-long : (turns : ℕ) (passes : List (List A)) → length (passes-lines show turns passes) ≡ length (all-rows passes) * turns
+  unfolding passes-lines
+  passes-long turns [] = omega arith
+  passes-long turns (p ∷ ps) =
+      length-append (pass-lines show turns p) (passes-lines show turns ps)
+      ∙ rw (pass-long turns p, passes-long turns ps, length-append p (all-rows ps)) (omega arith)
 
-  -- what holds of every element
-  pub data Each (P : A → Type 0) : List A → Type 0 where
-    none : Each P []
-    more : {x : A} {xs : List A} → P x → Each P xs → Each P (x ∷ xs)
+  pub lines-long : (turns : ℕ) (l : Layout A) → length (lines show turns l) ≡ layout-size turns l
+  unfolding lines
+  lines-long turns l =
+      length-append (map (show 0) (l .head) ++ passes-lines show turns (l .passes)) (map (show 0) (l .end))
+      ∙ rw (length-append (map (show 0) (l .head)) (passes-lines show turns (l .passes)), length-map (l .head) (show 0))
+      (rw (passes-long turns (l .passes), length-map (l .end) (show 0)))
 
-  pub each-append : {P : A → Type 0} {xs ys : List A} → Each P xs → Each P ys → Each P (xs ++ ys)
-  each-append none e = e
-  each-append (more p d) e = more p (each-append d e)
-
-  pub each-first : {P : A → Type 0} {x : A} {xs : List A} → Each P (x ∷ xs) → P x
-  each-first (more p e) = p
-
-  pub each-rest : {P : A → Type 0} {x : A} {xs : List A} → Each P (x ∷ xs) → Each P xs
-  each-rest (more p e) = e
-
-  pub each-split : {P : A → Type 0} (xs : List A) {ys : List A} → Each P (xs ++ ys) → Each P xs × Each P ys
-  each-split [] e = (none, e)
-  each-split (x ∷ xs) e = (more (each-first e) (each-split xs (each-rest e) .0), each-split xs (each-rest e) .1)
-
-  -- what holds of every element for each number
-  pub each-all : {P : ℕ → A → Type 0} (xs : List A) → ((a : ℕ) → Each (P a) xs) → Each (λ x. (a : ℕ) → P a x) xs
-  each-all [] h = none
-  each-all (x ∷ xs) h = more (λ a. each-first (h a)) (each-all xs (λ a. each-rest (h a)))
-
-  pub each-map : {P R : A → Type 0} {xs : List A} → ((x : A) → P x → R x) → Each P xs → Each R xs
-  each-map f none = none
-  each-map f (more p e) = more (f _ p) (each-map f e)
-
-  pub each-at : {P : A → Type 0} {xs : List A} (d : A) (i : ℕ) → P d → Each P xs → P (getD xs i d)
-  each-at d i p none = p
-  each-at d zero p (more q e) = q
-  each-at d (suc i) p (more q e) = each-at d i p e
-
-  each-pass : {P : A → Type 0} (k : ℕ) (pass : ℕ → List A) → ((a : ℕ) → a < k → Each P (pass a)) → Each P (pass-lines k pass)
+  -- what holds of every row at every turn holds of every line
+  each-pass : {P : B → Type 0} (turns : ℕ) (pass : List A) → ((a : ℕ) → a < turns → Each (λ r. P (show a r)) pass)
+      → Each P (pass-lines show turns pass)
   unfolding pass-lines
   each-pass zero pass h = none
-  each-pass (suc k) pass h = each-append (each-pass k pass (λ a l. h a (omega arith))) (h k (omega arith))
+  each-pass (suc a) pass h = each-append (each-pass a pass (λ i l. h i (omega arith))) (each-image (show a) (h a (omega arith)))
 
-  pub each-lines : {P : A → Type 0} (turns : ℕ) (l : Layout A) (pass : ℕ → List A) → l .passes ≡ pass ∷ []
-      → Each P (l .head) → ((a : ℕ) → a < turns → Each P (pass a)) → Each P (l .end) → Each P (lines turns l)
-  unfolding lines passes-lines
-  each-lines turns l pass e first middle last = rw e (each-append (each-append first (each-append (each-pass turns pass middle) none)) last)
+  each-passes : {P : B → Type 0} (turns : ℕ) (passes : List (List A)) → ((a : ℕ) → a < turns → Each (λ r. P (show a r)) (all-rows passes))
+      → Each P (passes-lines show turns passes)
+  unfolding passes-lines
+  each-passes turns [] h = none
+  each-passes turns (p ∷ ps) h =
+      each-append (each-pass turns p (λ a l. each-split p (h a l) .0)) (each-passes turns ps (λ a l. each-split p (h a l) .1))
 
--- two layouts of one pass whose parts agree under f and g agree whole
-module _ {A B : Type 0} (f : A → ℕ) (g : B → ℕ) where
-  pass-agree : (turns : ℕ) (p : ℕ → List A) (q : ℕ → List B) → ((a : ℕ) → a < turns → map f (p a) ≡ map g (q a))
-      → map f (pass-lines turns p) ≡ map g (pass-lines turns q)
+  pub each-line : {P : B → Type 0} (turns : ℕ) (l : Layout A) → Each (λ r. P (show 0 r)) (l .head)
+      → ((a : ℕ) → a < turns → Each (λ r. P (show a r)) (all-rows (l .passes))) → Each (λ r. P (show 0 r)) (l .end)
+      → Each P (lines show turns l)
+  unfolding lines
+  each-line turns l first middle last =
+      each-append (each-append (each-image (show 0) first) (each-passes turns (l .passes) middle)) (each-image (show 0) last)
+
+-- a function of every line is a function of what every row shows
+module _ {A B C : Type 0} (show : ℕ → A → B) (f : B → C) where
+  row-map : (a : ℕ) (rows : List A) → map f (map (show a) rows) ≡ map (λ r. f (show a r)) rows
+  row-map a [] = refl
+  row-map a (r ∷ rs) = ap (λ l. f (show a r) ∷ l) (row-map a rs)
+
+  pass-map : (turns : ℕ) (pass : List A) → map f (pass-lines show turns pass) ≡ pass-lines (λ a r. f (show a r)) turns pass
   unfolding pass-lines
-  pass-agree zero p q h = refl
-  pass-agree (suc k) p q h =
-      map-append f (pass-lines k p) (p k) ∙ ap₂ _++_ (pass-agree k p q (λ a l. h a (omega arith))) (h k (omega arith)) ∙ sym (map-append g (pass-lines k q) (q k))
+  pass-map zero pass = refl
+  pass-map (suc a) pass = map-append f (pass-lines show a pass) (map (show a) pass) ∙ ap₂ _++_ (pass-map a pass) (row-map a pass)
 
-  pub lines-agree : (turns : ℕ) (k : Layout A) (l : Layout B) (p : ℕ → List A) (q : ℕ → List B) → k .passes ≡ p ∷ [] → l .passes ≡ q ∷ []
-      → map f (k .head) ≡ map g (l .head) → ((a : ℕ) → a < turns → map f (p a) ≡ map g (q a)) → map f (k .end) ≡ map g (l .end)
-      → map f (lines turns k) ≡ map g (lines turns l)
-  unfolding lines passes-lines
-  lines-agree turns k l p q d e first middle last =
-      rw (d, e) (simp (append-nil, map-append) (rw (first, pass-agree turns p q middle, last)))
+  passes-map : (turns : ℕ) (passes : List (List A))
+      → map f (passes-lines show turns passes) ≡ passes-lines (λ a r. f (show a r)) turns passes
+  unfolding passes-lines
+  passes-map turns [] = refl
+  passes-map turns (p ∷ ps) =
+      map-append f (pass-lines show turns p) (passes-lines show turns ps) ∙ ap₂ _++_ (pass-map turns p) (passes-map turns ps)
+
+  pub lines-map : (turns : ℕ) (l : Layout A) → map f (lines show turns l) ≡ lines (λ a r. f (show a r)) turns l
+  unfolding lines
+  lines-map turns l =
+      map-append f (map (show 0) (l .head) ++ passes-lines show turns (l .passes)) (map (show 0) (l .end))
+      ∙ ap₂ _++_
+      (map-append f (map (show 0) (l .head)) (passes-lines show turns (l .passes))
+      ∙ ap₂ _++_ (row-map 0 (l .head)) (passes-map turns (l .passes)))
+      (row-map 0 (l .end))
+
+-- two layouts whose rows show the same, pass by pass
+module _ {A B : Type 0} (f : ℕ → A → ℕ) (g : ℕ → B → ℕ) (turns : ℕ) where
+  pub data Same-passes : List (List A) → List (List B) → Type 0 where
+    no-pass : Same-passes [] []
+    one-pass : {p : List A} {q : List B} {ps : List (List A)} {qs : List (List B)} → ((a : ℕ) → a < turns → map (f a) p ≡ map (g a) q)
+        → Same-passes ps qs → Same-passes (p ∷ ps) (q ∷ qs)
+
+  pub record Same-rows (k : Layout A) (l : Layout B) : Type 0 where
+    pub head : map (f 0) (k .head) ≡ map (g 0) (l .head)
+    pub passes : Same-passes (k .passes) (l .passes)
+    pub end : map (f 0) (k .end) ≡ map (g 0) (l .end)
+
+  pass-same : (count : ℕ) (p : List A) (q : List B) → ((a : ℕ) → a < count → map (f a) p ≡ map (g a) q)
+      → pass-lines f count p ≡ pass-lines g count q
+  unfolding pass-lines
+  pass-same zero p q h = refl
+  pass-same (suc a) p q h = ap₂ _++_ (pass-same a p q (λ i l. h i (omega arith))) (h a (omega arith))
+
+  passes-same : {ps : List (List A)} {qs : List (List B)} → Same-passes ps qs → passes-lines f turns ps ≡ passes-lines g turns qs
+  unfolding passes-lines
+  passes-same no-pass = refl
+  passes-same (one-pass {p = p} {q = q} h s) = ap₂ _++_ (pass-same turns p q h) (passes-same s)
+
+  pub lines-same : (k : Layout A) (l : Layout B) → Same-rows k l → lines f turns k ≡ lines g turns l
+  unfolding lines
+  lines-same k l s = ap₂ _++_ (ap₂ _++_ (s .head) (passes-same (s .passes))) (s .end)
+
+-- two ways of showing that agree on each row of the layout, at each turn
+module _ {A : Type 0} (f g : ℕ → A → ℕ) (turns : ℕ) where
+  rows-agree : {a : ℕ} {rs : List A} → Each (λ r. f a r ≡ g a r) rs → map (f a) rs ≡ map (g a) rs
+  rows-agree none = refl
+  rows-agree (more e d) = ap₂ _∷_ e (rows-agree d)
+
+  passes-agree : (ps : List (List A)) → ((a : ℕ) → a < turns → Each (λ r. f a r ≡ g a r) (all-rows ps)) → Same-passes f g turns ps ps
+  passes-agree [] h = no-pass
+  passes-agree (p ∷ ps) h = one-pass (λ a l. rows-agree (each-split p (h a l) .0)) (passes-agree ps (λ a l. each-split p (h a l) .1))
+
+  pub lines-agree : (l : Layout A) → Each (λ r. f 0 r ≡ g 0 r) (l .head)
+      → ((a : ℕ) → a < turns → Each (λ r. f a r ≡ g a r) (all-rows (l .passes))) → Each (λ r. f 0 r ≡ g 0 r) (l .end)
+      → lines f turns l ≡ lines g turns l
+  lines-agree l first middle last =
+      lines-same f g turns l l (record { head = rows-agree first; passes = passes-agree (l .passes) middle; end = rows-agree last })

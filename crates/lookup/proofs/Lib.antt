@@ -1,11 +1,12 @@
 -- The laws of both methods, and the proofs of what is promised.
-pub mod ByMethod
+pub mod Each
+pub mod Methods
+pub mod Entry
 pub mod Places
 pub mod Accepted
 pub mod Second
 pub mod Third
 pub mod Layouts
-pub mod Lines
-pub mod Sizes
+pub mod Right
 pub mod Runs
 pub mod Promises

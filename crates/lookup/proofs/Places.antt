@@ -1,4 +1,4 @@
--- What stands at a place of a list after a store. Assumes nothing.
+-- What stands at a place of a list after a store.
 use mathlib.Core.Path.{_≡_}
 use mathlib.Core.List.{List}
 use Prim.Native.Nat.{ℕ, _<_}

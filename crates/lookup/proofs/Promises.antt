@@ -1,49 +1,37 @@
--- What is promised of an accepted lookup holds. Assumes nothing.
+-- What is promised of an accepted lookup holds.
 use mathlib.Core.Path.{_≡_, refl, sym, ap, _∙_}
-use mathlib.Core.Logic.{inl, inr}
-use mathlib.Core.Bool.{false}
-use mathlib.Core.List.{List}
-use Prim.Native.Nat.{ℕ, _+_, _*_, _^_}
-use native.Mathlib.Nat.{le-refl}
+use mathlib.Core.List.{List, map}
+use Prim.Native.Nat.{ℕ, _^_}
 use native.Mathlib.Omega.{arith}
-use lib.ListN.{length, drop, length-map}
 use Rattle.bits.specs.Xor.{_⊕_}
 use Rattle.bits.proofs.Xor.{xors, below}
-use Rattle.refusals.specs.Tests.{any-from}
+use Rattle.table.specs.Balanced.{at}
 use Rattle.lookup.specs.declared.Case.{Case}
 use Rattle.lookup.specs.Case.{Q}
-use Rattle.lookup.specs.Method2.{masked}
-use Rattle.lookup.specs.Call.{answer, scratch-after}
-use Rattle.lookup.specs.Layout.{Layout, lines}
-use Rattle.lookup.specs.Log.{Line, entry, head-2, pass-2, end-2, layout-2, head-3, pass-3, end-3, layout-3, layout, log, log-length}
-use Rattle.lookup.specs.Promises.{Answer-right, Answer-small, Answer-kept, Rest-kept, Log-long}
-use Rattle.lookup.proofs.Accepted.{Chosen, Accepted, accepted}
-use Rattle.lookup.proofs.ByMethod.{by-2, by-3}
-use Rattle.lookup.proofs.Second.{answer-2-is, byte-r3, beyond, r-prime-below}
-use Rattle.lookup.proofs.Third.{answer-3-is, scratch-3-rest}
-use Rattle.lookup.proofs.Layouts.{Each, lines-long}
-use Rattle.lookup.proofs.Lines.{Small, entries-small}
-use Rattle.lookup.proofs.Sizes.{small-2, small-3}
+use Rattle.lookup.specs.Entry.{kind-of, value-of, entry-limit}
+use Rattle.lookup.specs.Layout.{lines}
+use Rattle.lookup.specs.Row.{Row, row-entry, masked}
+use Rattle.lookup.specs.Method.{Method}
+use Rattle.lookup.specs.Methods.{found, method-of}
+use Rattle.lookup.specs.Call.{answer, scratch-after, log-of, log-length, scratch-length}
+use Rattle.lookup.specs.Refusals.{case-refusal}
+use Rattle.lookup.specs.Promises.{Answer-right, Answer-small, Answer-kept, Rest-kept, Lengths-right, Log-long, Log-read-back}
+use Rattle.lookup.proofs.Each.{each-map}
+use Rattle.lookup.proofs.Methods.{of-each, method-2-of}
+use Rattle.lookup.proofs.Entry.{entry-kind, entry-value, value-kept, entry-small, none-large}
+use Rattle.lookup.proofs.Accepted.{Taken, accepted}
+use Rattle.lookup.proofs.Second.{byte-r3}
+use Rattle.lookup.proofs.Layouts.{lines-long, each-line, lines-map, lines-agree}
+use Rattle.lookup.proofs.Right.{Small, Right, right}
 
--- under either method the answer is the masked entry of turn r1 ⊕ r2
-pub answer-is : (c : Case) (table : List ℕ) → Accepted c table → answer c table ≡ masked c table (c .r1 ⊕ c .r2)
+-- what is proved of the method that was taken
+pub taken-right : (c : Case) (table : List ℕ) → Taken c table → Right (method-of (c .method))
+taken-right c table taken = of-each (c .method) right (taken .0)
+
+-- under each method the answer is the masked entry of turn r1 ⊕ r2
+pub answer-is : (c : Case) (table : List ℕ) → Taken c table → answer c table ≡ masked c table (c .r1 ⊕ c .r2)
 unfolding answer
-answer-is c table k = by (k .chosen)
-  where
-    by : Chosen (c .method) (c .b) → answer c table ≡ masked c table (c .r1 ⊕ c .r2)
-    by (inl h) = by-2 _ _ _ (h .0) ∙ answer-2-is c table (k .r1) (k .r2) (k .r3)
-    by (inr h) = by-3 _ _ _ (h .0) ∙ answer-3-is c table (h .1) (k .r1) (k .r2) (k .r3)
-
-pub rest-kept : Rest-kept
-unfolding Rest-kept scratch-after
-rest-kept table scratch c e = by (k .chosen)
-  where
-    k : Accepted c table
-    k = accepted c table e
-
-    by : Chosen (c .method) (c .b) → drop (Q c) (scratch-after c table scratch) ≡ drop (Q c) scratch
-    by (inl h) = ap (drop (Q c)) (by-2 _ _ _ (h .0)) ∙ beyond c table (Q c) scratch (r-prime-below c (k .r1) (k .r2) (k .r3)) (le-refl _)
-    by (inr h) = ap (drop (Q c)) (by-3 _ _ _ (h .0)) ∙ scratch-3-rest c table scratch
+answer-is c table taken = taken-right c table taken .answers c table (taken .1)
 
 pub answer-right : Answer-right
 unfolding Answer-right masked
@@ -52,34 +40,57 @@ answer-right table c e = rw (answer-is c table (accepted c table e)) (simp xors)
 pub answer-small : Answer-small
 unfolding Answer-small masked
 answer-small table c e =
-    let k = accepted c table e in
-    rw (answer-is c table k) (below (c .m) (below (c .m) (k .table .small _) (k .s1)) (k .s2))
+    let taken = accepted c table e in
+    rw (answer-is c table taken) (below (c .m) (below (c .m) (taken .1 .table .small _) (taken .1 .s1)) (taken .1 .s2))
 
 pub answer-kept : Answer-kept
 unfolding Answer-kept scratch-after
-answer-kept table scratch c e m l =
-    let k = accepted c table e in
-    rw (by-2 _ _ _ m) (byte-r3 c table scratch l (k .r1) (k .r2) (k .r3)) ∙ sym (answer-is c table k)
+answer-kept table scratch c e m room =
+    let taken = accepted c table e in
+    ap (λ (k : Method). at (k .scratch c table scratch) (c .r3)) (method-2-of (c .method) m)
+    ∙ byte-r3 c table scratch room (taken .1 .r1) (taken .1 .r2) (taken .1 .r3)
+    ∙ sym (answer-is c table taken)
 
--- the entries of a log whose lines are known
-log-of : (c : Case) (table : List ℕ) (l : Layout Line) → layout c table ≡ l → (n : ℕ) → length (lines (Q c) l) ≡ n → Each Small (lines (Q c) l)
-    → (length (log c table) ≡ n) × (any-from 65536 (log c table) ≡ false)
-unfolding log
-log-of c table l e n long small = rw e (length-map (lines (Q c) l) entry ∙ long, entries-small small)
+pub rest-kept : Rest-kept
+unfolding Rest-kept scratch-after scratch-length Q
+rest-kept table scratch c e =
+    let taken = accepted c table e in
+    taken-right c table taken .rest c table scratch (taken .1)
+
+pub lengths-right : Lengths-right
+unfolding Lengths-right log-length scratch-length method-of found
+lengths-right n = (omega arith, omega arith, refl, refl)
 
 pub log-long : Log-long
-unfolding Log-long log-length layout layout-2 layout-3 head-2 head-3 pass-2 pass-3 end-2 end-3 Q
-log-long table c e = by (k .chosen)
-  where
-    k : Accepted c table
-    k = accepted c table e
+unfolding Log-long log-of log-length Q
+log-long table c e =
+    let taken = accepted c table e in
+    let small = taken-right c table taken in
+    let layout = method-of (c .method) .layout in (
+      lines-long (row-entry c table) (2 ^ c .n) layout,
+      none-large entry-limit
+          (each-line (row-entry c table) (2 ^ c .n) layout
+          (each-map (λ r s. entry-small (s .kind) (s .value)) (small .head c table (taken .1)))
+          (λ a h. each-map (λ r s. entry-small (s .kind) (s .value)) (small .passes c table (taken .1) a h))
+          (each-map (λ r s. entry-small (s .kind) (s .value)) (small .end c table (taken .1)))),
+    )
 
-    by : Chosen (c .method) (c .b) → (length (log c table) ≡ log-length (c .method) (c .n)) × (any-from 65536 (log c table) ≡ false)
-    by (inl h) =
-        log-of c table (layout-2 c table) (by-2 _ _ _ (h .0)) _
-        (lines-long 6 (Q c) (layout-2 c table) (pass-2 c table) refl (λ a. refl) ∙ omega (arith, by-2 (10 + 6 * 2 ^ c .n) (10 + 9 * 2 ^ c .n) 0 (h .0)))
-        (small-2 c table k)
-    by (inr h) =
-        log-of c table (layout-3 c table) (by-3 _ _ _ (h .0)) _
-        (lines-long 9 (Q c) (layout-3 c table) (pass-3 c table) refl (λ a. refl) ∙ omega (arith, by-3 (10 + 6 * 2 ^ c .n) (10 + 9 * 2 ^ c .n) 0 (h .0)))
-        (small-3 c table k (h .1))
+-- one reading of every entry: what it gives of a small row is what the row has
+read-back : (read : ℕ → ℕ) (wanted : ℕ → Row → ℕ) (table : List ℕ) (c : Case) → case-refusal c table ≡ 0
+    → ((a : ℕ) (r : Row) → Small c table a r → read (row-entry c table a r) ≡ wanted a r)
+    → map read (log-of c table) ≡ lines wanted (Q c) (method-of (c .method) .layout)
+unfolding log-of Q
+read-back read wanted table c e h =
+    let taken = accepted c table e in
+    let small = taken-right c table taken in
+    let layout = method-of (c .method) .layout in
+    lines-map (row-entry c table) read (2 ^ c .n) layout
+    ∙ lines-agree (λ a r. read (row-entry c table a r)) wanted (2 ^ c .n) layout (each-map (h 0) (small .head c table (taken .1)))
+    (λ a l. each-map (h a) (small .passes c table (taken .1) a l)) (each-map (h 0) (small .end c table (taken .1)))
+
+pub log-read-back : Log-read-back
+unfolding Log-read-back
+log-read-back table c e = (
+  read-back kind-of (λ a r. r .kind) table c e (λ a r s. entry-kind (s .value)),
+  read-back value-of (λ a r. r .value c table a) table c e (λ a r s. entry-value _ _ ∙ value-kept (s .value)),
+)

@@ -1,4 +1,4 @@
--- What a bounded case gives the methods' runs: sums of its numbers stay within the table, the scratch and a byte. Assumes nothing.
+-- What a bounded case gives the methods' runs: sums of its numbers stay within the table, the scratch and a byte.
 use mathlib.Core.Path.{_≡_}
 use mathlib.Core.List.{List}
 use Prim.Native.Nat.{ℕ, _^_, _<_}

@@ -1,4 +1,4 @@
--- The laws of method 2: what stands in the scratch after the turns, and the answer. Assumes nothing.
+-- The laws of method 2: what stands in the scratch after the turns, and the answer.
 use mathlib.Core.Path.{_≡_, refl, sym, ap, _∙_}
 use mathlib.Core.List.{List}
 use Prim.Native.Nat.{ℕ, zero, suc, _≤_, _<_}
@@ -13,7 +13,8 @@ use Rattle.bits.proofs.Xor.{xors, below}
 use Rattle.table.specs.Balanced.{at}
 use Rattle.lookup.specs.declared.Case.{Case}
 use Rattle.lookup.specs.Case.{Q}
-use Rattle.lookup.specs.Method2.{masked, r-prime, scratch-2, answer-2}
+use Rattle.lookup.specs.Row.{masked}
+use Rattle.lookup.specs.Method2.{r-prime, scratch-2, answer-2}
 use Rattle.lookup.proofs.Places.{at-same, at-other}
 
 pub r-prime-below : (c : Case) → c .r1 < Q c → c .r2 < Q c → c .r3 < Q c → r-prime c < Q c
@@ -27,15 +28,18 @@ module _ (c : Case) (table : List ℕ) where
   scratch-long (suc a) scratch = simp length-set (scratch-long a scratch)
 
   -- each byte of a turn that has passed holds the turn's entry: no later turn touches it
-  pub filled : (k : ℕ) (scratch : List ℕ) (j : ℕ) → j < length scratch → j ⊕ r-prime c < k → at (scratch-2 k c table scratch) j ≡ masked c table (j ⊕ r-prime c)
+  pub filled : (k : ℕ) (scratch : List ℕ) (j : ℕ) → j < length scratch → j ⊕ r-prime c < k
+      → at (scratch-2 k c table scratch) j ≡ masked c table (j ⊕ r-prime c)
   unfolding scratch-2
   filled zero scratch j l h = absurd (not-suc-le-zero h)
   filled (suc a) scratch j l h = turn (ℕ-discrete j (a ⊕ r-prime c)) (filled a scratch j l)
     where
       turn : Dec (j ≡ a ⊕ r-prime c) → (j ⊕ r-prime c < a → at (scratch-2 a c table scratch) j ≡ masked c table (j ⊕ r-prime c))
           → at (set (scratch-2 a c table scratch) (a ⊕ r-prime c) (masked c table a)) j ≡ masked c table (j ⊕ r-prime c)
-      turn (yes e) before = rw e (at-same (scratch-2 a c table scratch) _ _ (rw (scratch-long a scratch, ← e) l) ∙ ap (masked c table) (simp xors))
-      turn (no ne) before = at-other _ _ j _ ne ∙ before (lt-of-le-ne (le-of-suc-le-suc h) (λ e. ne (sym (ap (λ i. i ⊕ r-prime c) (sym e) ∙ simp xors))))
+      turn (yes e) before =
+          rw e (at-same (scratch-2 a c table scratch) _ _ (rw (scratch-long a scratch, ← e) l) ∙ ap (masked c table) (simp xors))
+      turn (no ne) before =
+          at-other _ _ j _ ne ∙ before (lt-of-le-ne (le-of-suc-le-suc h) (λ e. ne (sym (ap (λ i. i ⊕ r-prime c) (sym e) ∙ simp xors))))
 
   -- no turn touches a byte from Q on
   pub beyond : (k : ℕ) (scratch : List ℕ) → r-prime c < Q c → k ≤ Q c → drop (Q c) (scratch-2 k c table scratch) ≡ drop (Q c) scratch

@@ -1,4 +1,4 @@
--- The laws of method 3: what the comparison gives, and which turn's entry is kept. Assumes nothing.
+-- The laws of method 3: what the comparison gives, and which turn's entry is kept.
 use mathlib.Core.Path.{_≡_, refl, sym, ap, _∙_}
 use mathlib.Core.List.{List}
 use Prim.Native.Nat.{ℕ, zero, suc, _-_, _≤_, _<_}
@@ -13,7 +13,7 @@ use Rattle.bits.proofs.Xor.{xors, below}
 use Rattle.table.specs.Balanced.{at}
 use Rattle.lookup.specs.declared.Case.{Case}
 use Rattle.lookup.specs.Case.{Q}
-use Rattle.lookup.specs.Method2.{masked}
+use Rattle.lookup.specs.Row.{masked}
 use Rattle.lookup.specs.Method3.{comparison-table, scratch-3, place-3, compared, registers-3, answer-3}
 use Rattle.lookup.proofs.Places.{at-same, at-other, at-replicate}
 
@@ -65,7 +65,8 @@ module _ (c : Case) (table : List ℕ) where
       turn : Dec (c .r1 ⊕ c .r2 ≡ a) → (c .r1 ⊕ c .r2 < a → at (registers-3 a c table) (c .b) ≡ masked c table (c .r1 ⊕ c .r2))
           → at (set (registers-3 a c table) (compared c a) (masked c table a)) (c .b) ≡ masked c table (c .r1 ⊕ c .r2)
       turn (yes e) before =
-          rw (compared-hit a h3 (rw e at place-hits)) (at-same (registers-3 a c table) _ _ (rw (registers-long a) b) ∙ ap (masked c table) (sym e))
+          rw (compared-hit a h3 (rw e at place-hits)) (at-same (registers-3 a c table) _ _ (rw (registers-long a) b)
+          ∙ ap (masked c table) (sym e))
       turn (no ne) before =
           let miss : compared c a ≡ 1 - c .b = compared-miss a (place-below a l h1 h2 h3) (λ e. ne (sym (place-turn a e))) in
           at-other _ _ (c .b) _ (λ e. omega (arith, e ∙ miss)) ∙ before (lt-of-le-ne (le-of-suc-le-suc h) ne)

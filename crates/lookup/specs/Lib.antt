@@ -1,10 +1,13 @@
--- The masked table lookup under both methods: refusals, scratch, answer and log, and what is promised of them.
+-- The masked table lookup: cases, methods, refusals, scratch, answer and log, and what is promised of them.
 pub mod Case
+pub mod Entry
+pub mod Layout
+pub mod Row
+pub mod Method
 pub mod Method2
 pub mod Method3
+pub mod Methods
 pub mod Call
-pub mod Layout
-pub mod Log
 pub mod Refusals
 pub mod Bounded
 pub mod Promises

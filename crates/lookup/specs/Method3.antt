@@ -1,4 +1,4 @@
--- Method 3: the scratch says which turn's entry is kept, masked by the bit b. Assumes nothing: these are definitions.
+-- Method 3: the scratch says which turn's entry is kept, masked by the bit b.
 use mathlib.Core.List.{List, [], _∷_, _++_}
 use Prim.Native.Nat.{ℕ, zero, suc, _-_}
 use lib.ListN.{drop, set, replicate}
@@ -6,7 +6,8 @@ use Rattle.bits.specs.Xor.{_⊕_}
 use Rattle.table.specs.Balanced.{at}
 use Rattle.lookup.specs.declared.Case.{Case}
 use Rattle.lookup.specs.Case.{Q}
-use Rattle.lookup.specs.Method2.{masked}
+use Rattle.lookup.specs.Row.{Row, _∶_, x0, r1, r2, r3, s1, s2, b, turn, index, looked-up, once-masked, masked}
+use Rattle.lookup.specs.Method.{Method}
 
 -- every byte below Q becomes 1 - b, then byte r3 becomes b
 unfoldable pub comparison-table : Case → List ℕ
@@ -30,3 +31,27 @@ registers-3 (suc a) c table = set (registers-3 a c table) (compared c a) (masked
 -- the answer is register b
 unfoldable pub answer-3 : Case → (table : List ℕ) → ℕ
 answer-3 c table = at (registers-3 (Q c) c table) (c .b)
+
+-- the log, kinds beside values
+abbrev pub head-3 : List Row
+head-3 = 11 ∶ x0 ∷ 1 ∶ r1 ∷ 2 ∶ r2 ∷ 3 ∶ s1 ∷ 4 ∶ s2 ∷ 6 ∶ b ∷ 5 ∶ r3 ∷ 18 ∶ (λ c table a. 1 - c .b) ∷ []
+
+abbrev pub pass-3 : List Row
+pass-3 =
+    7 ∶ turn ∷ 8 ∶ (λ c table a. c .r1 ⊕ a) ∷ 9 ∶ (λ c table a. c .r1 ⊕ a ⊕ c .r3) ∷ 17 ∶ (λ c table a. place-3 c a)
+    ∷ 10 ∶ (λ c table a. compared c a) ∷ 12 ∶ index ∷ 13 ∶ looked-up ∷ 14 ∶ once-masked ∷ 15 ∶ masked ∷ []
+
+abbrev pub end-3 : List Row
+end-3 = 6 ∶ b ∷ 16 ∶ (λ c table a. answer-3 c table) ∷ []
+
+abbrev pub method-3 : Method
+method-3 =
+    record {
+      number = 3;
+      layout = record { head = head-3; passes = pass-3 ∷ []; end = end-3 };
+      scratch-length = λ inputs. inputs;
+      scratch = λ c table scratch. scratch-3 c scratch;
+      answer = answer-3;
+      b-most = 1;
+      mask-classes = 0 ∷ 0 ∷ 0 ∷ 1 ∷ 1 ∷ 3 ∷ [];
+    }

@@ -1,16 +1,19 @@
--- What is promised of an accepted lookup. Each is a type; its proof stands in proofs/Promises.antt. Assumes nothing.
+-- What is promised of an accepted lookup. Each is a type; its proof stands in proofs/Promises.antt.
 use mathlib.Core.Path.{_≡_}
 use mathlib.Core.Bool.{false}
-use mathlib.Core.List.{List}
-use Prim.Native.Nat.{ℕ, _^_, _≤_, _<_}
+use mathlib.Core.List.{List, map}
+use Prim.Native.Nat.{ℕ, _+_, _*_, _^_, _≤_, _<_}
 use lib.ListN.{length, drop}
 use Rattle.bits.specs.Xor.{_⊕_}
 use Rattle.refusals.specs.Tests.{any-from}
 use Rattle.table.specs.Balanced.{at}
 use Rattle.lookup.specs.declared.Case.{Case}
 use Rattle.lookup.specs.Case.{Q}
-use Rattle.lookup.specs.Call.{answer, scratch-after}
-use Rattle.lookup.specs.Log.{log, log-length}
+use Rattle.lookup.specs.Entry.{kind-of, value-of, entry-limit}
+use Rattle.lookup.specs.Layout.{lines}
+use Rattle.lookup.specs.Row.{Row}
+use Rattle.lookup.specs.Methods.{method-of}
+use Rattle.lookup.specs.Call.{answer, scratch-after, log-of, log-length, scratch-length}
 use Rattle.lookup.specs.Refusals.{case-refusal}
 
 -- the answer joined with both output masks is the table's entry for the input
@@ -28,13 +31,27 @@ Answer-kept =
     (table scratch : List ℕ) (c : Case) → case-refusal c table ≡ 0 → c .method ≡ 2 → Q c ≤ length scratch →
     at (scratch-after c table scratch) (c .r3) ≡ answer c table
 
--- scratch bytes from Q on are unchanged
+-- scratch bytes behind those that the method needs, which are Q under methods 2 and 3, are unchanged
 unfoldable pub Rest-kept : Type 0
 Rest-kept =
-    (table scratch : List ℕ) (c : Case) → case-refusal c table ≡ 0 → drop (Q c) (scratch-after c table scratch) ≡ drop (Q c) scratch
+    (table scratch : List ℕ) (c : Case) → case-refusal c table ≡ 0 →
+    drop (scratch-length (c .method) (c .n)) (scratch-after c table scratch) ≡ drop (scratch-length (c .method) (c .n)) scratch
+
+-- the lengths that document 01 gives
+unfoldable pub Lengths-right : Type 0
+Lengths-right =
+    (n : ℕ) → (log-length 2 n ≡ 10 + 6 * 2 ^ n) × (log-length 3 n ≡ 10 + 9 * 2 ^ n)
+    × (scratch-length 2 n ≡ 2 ^ n) × (scratch-length 3 n ≡ 2 ^ n)
 
 -- the log has its length, and each entry fits 16 bits
 unfoldable pub Log-long : Type 0
 Log-long =
     (table : List ℕ) (c : Case) → case-refusal c table ≡ 0 →
-    (length (log c table) ≡ log-length (c .method) (c .n)) × (any-from 65536 (log c table) ≡ false)
+    (length (log-of c table) ≡ log-length (c .method) (c .n)) × (any-from entry-limit (log-of c table) ≡ false)
+
+-- each entry's kind and value are those of its row
+unfoldable pub Log-read-back : Type 0
+Log-read-back =
+    (table : List ℕ) (c : Case) → case-refusal c table ≡ 0 →
+    (map kind-of (log-of c table) ≡ lines (λ a r. r .kind) (Q c) (method-of (c .method) .layout))
+    × (map value-of (log-of c table) ≡ lines (λ a r. r .value c table a) (Q c) (method-of (c .method) .layout))

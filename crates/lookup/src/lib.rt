@@ -3,7 +3,7 @@ ghost use mathlib.Core.Path.{_≡_};
 ghost use Prim.Native.Nat.{_^_, _<_};
 ghost use lib.ListN.{length};
 ghost use Rattle.lookup.specs.Bounded.{Bounded};
-ghost use Rattle.lookup.specs.Method2.{masked};
+ghost use Rattle.lookup.specs.Row.{masked};
 
 pub struct Case {
     pub method: u32,

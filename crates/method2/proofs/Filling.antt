@@ -1,4 +1,4 @@
--- What the loop that fills the scratch keeps: the scratch is what the definition gives after as many turns. Assumes nothing.
+-- What the loop that fills the scratch keeps: the scratch is what the definition gives after as many turns.
 use mathlib.Core.Path.{_≡_, refl, sym, ap, _∙_}
 use mathlib.Core.List.{List}
 use Prim.Native.Nat.{ℕ, _+_, _^_, _≤_, _<_}
@@ -14,8 +14,9 @@ use Rattle.table.specs.Balanced.{at}
 use Rattle.lookup.specs.declared.Case.{Case}
 use Rattle.lookup.specs.Case.{Q}
 use Rattle.lookup.specs.Bounded.{Bounded}
-use Rattle.lookup.specs.Method2.{masked, r-prime, scratch-2, answer-2}
-use Rattle.lookup.proofs.Second.{byte-r3, answer-2-is}
+use Rattle.lookup.specs.Row.{masked}
+use Rattle.lookup.specs.Method2.{r-prime, scratch-2, answer-2}
+use Rattle.lookup.proofs.Second.{byte-r3, answer-2-is, r-prime-below}
 use Rattle.lookup.proofs.Runs.{one-byte}
 
 -- a turn's place, from the first turn's
@@ -29,42 +30,51 @@ pub record Filling (c : Case) (table before now : List ℕ) (a : ℕ) : Type 0 w
   pub long : length now ≡ length before
 
 module _ (c : Case) (table before : List ℕ) where
-  pub begins : Filling c table before before 0
+  pub filling-begins : Filling c table before before 0
   unfolding scratch-2
-  begins = record { filled = refl; within = omega arith; long = refl }
+  filling-begins = record { filled = refl; within = omega arith; long = refl }
 
   -- one turn more: place and value are what the calls told
-  pub turns : (now : List ℕ) (size a place value : ℕ) → size ≡ 2 ^ c .n → a < size → place ≡ a ⊕ r-prime c → value ≡ masked c table a
+  pub filling-turns : (now : List ℕ) (size a place value : ℕ) → size ≡ 2 ^ c .n → a < size → place ≡ a ⊕ r-prime c
+      → value ≡ masked c table a
       → Filling c table before now a → Filling c table before (set now place value) (a + 1)
   unfolding scratch-2
-  turns now size a place value s h p v f =
+  filling-turns now size a place value s h p v f =
       record {
         filled = rw (p, v, f .filled, add-one);
         within = omega arith;
         long = simp length-set (f .long);
       }
 
-  pub ends : (now : List ℕ) (size a : ℕ) → size ≡ 2 ^ c .n → size ≤ a → Filling c table before now a → now ≡ scratch-2 (Q c) c table before
+  pub filling-ends : (now : List ℕ) (size a : ℕ) → size ≡ 2 ^ c .n → size ≤ a → Filling c table before now a
+      → now ≡ scratch-2 (Q c) c table before
   unfolding Q
-  ends now size a s h f =
+  filling-ends now size a s h f =
       let whole : a ≡ 2 ^ c .n = omega (arith, f .within) in
       f .filled ∙ ap (λ k. scratch-2 k c table before) whole
 
   -- a turn's place is in the scratch
-  pub in-scratch : (now : List ℕ) (size a place : ℕ) → Bounded c → 2 ^ c .n ≤ length before → size ≡ 2 ^ c .n → a < size → place ≡ a ⊕ r-prime c
+  pub filling-in-scratch : (now : List ℕ) (size a place : ℕ) → Bounded c → 2 ^ c .n ≤ length before → size ≡ 2 ^ c .n → a < size
+      → place ≡ a ⊕ r-prime c
       → Filling c table before now a → place < length now
-  unfolding r-prime
-  in-scratch now size a place r room s h p f =
-      let small : a ⊕ (c .r1 ⊕ c .r3 ⊕ c .r2) < 2 ^ c .n = below (c .n) (rw s at h) (below (c .n) (below (c .n) (r .r1) (r .r3)) (r .r2)) in
+  unfolding Q
+  filling-in-scratch now size a place k room s h p f =
+      let small : a ⊕ r-prime c < 2 ^ c .n = below (c .n) (rw s at h) (r-prime-below c (k .r1) (k .r2) (k .r3)) in
       omega (arith, p, f .long)
 
   -- byte r3 of the filled scratch is the answer
-  pub answered : (now : List ℕ) → Bounded c → 2 ^ c .n ≤ length before → now ≡ scratch-2 (Q c) c table before → getD now (c .r3) 0 ≡ answer-2 c table
+  pub filled-answers : (now : List ℕ) → Bounded c → 2 ^ c .n ≤ length before → now ≡ scratch-2 (Q c) c table before
+      → getD now (c .r3) 0 ≡ answer-2 c table
   unfolding at Q
-  answered now r room e =
+  filled-answers now r room e =
       rw e (byte-r3 c table before room (r .r1) (r .r2) (r .r3)) ∙ sym (answer-2-is c table (r .r1) (r .r2) (r .r3))
+
+  pub read-answers : (answer : ℕ) (now : List ℕ) → Bounded c → 2 ^ c .n ≤ length before → now ≡ scratch-2 (Q c) c table before
+      → answer ≡ getD now (c .r3) 0
+      → answer ≡ answer-2 c table
+  read-answers answer now k room e told = told ∙ filled-answers now k room e
 
 -- a turn's place fits a byte
 pub place-byte : (c : Case) (a place : ℕ) → Bounded c → a < 2 ^ c .n → place ≡ a ⊕ r-prime c → Fits w8 place
-unfolding r-prime
-place-byte c a place k h p = rw p (one-byte c k (below (c .n) h (below (c .n) (below (c .n) (k .r1) (k .r3)) (k .r2))))
+unfolding Q
+place-byte c a place k h p = rw p (one-byte c k (below (c .n) h (r-prime-below c (k .r1) (k .r2) (k .r3))))

@@ -1,15 +1,17 @@
 // Method 2: the table is copied to the scratch, masked and in another order, and the answer is read there.
-// The calls have checked the case and measured the buffers, so the functions here have a `requires`.
+// The calls have checked the case and measured the buffers, so the runs have a `requires`.
 ghost use mathlib.Core.Path.{_≡_};
-ghost use Prim.Native.Nat.{_+_, _^_, _≤_, _<_};
+ghost use Prim.Native.Nat.{_^_, _≤_, _<_};
 ghost use lib.ListN.{length};
 ghost use Rattle.lookup.specs.Case.{Q};
 ghost use Rattle.lookup.specs.Bounded.{Bounded};
-ghost use Rattle.lookup.specs.Log.{entry};
 ghost use Rattle.lookup.specs.Method2.{r-prime as Method2·r-prime, scratch-2, answer-2};
 use lookup::Case;
 
 pub mod logged;
+mod parts;
+
+pub use parts::log_length;
 
 // A run without a log: the scratch is filled, and the answer is its byte r3.
 pub fn run(case: Case, table: &[u8], scratch: &mut [u8]) -> u8

@@ -1,21 +1,16 @@
--- What a turn reads in a scratch that begins with the comparison table. Assumes nothing.
+-- What a turn reads in a scratch that begins with the comparison table.
 use mathlib.Core.Path.{_≡_, sym, ap, _∙_}
 use mathlib.Core.List.{List}
 use Prim.Native.Nat.{ℕ, _^_, _<_}
 use native.Mathlib.Omega.{arith}
 use lib.ListN.{length, getD, take, length-take}
-use lib.Seq.{take-at, getD-take}
+use lib.Seq.{getD-take}
 use Rattle.table.specs.Balanced.{at}
 use Rattle.lookup.specs.declared.Case.{Case}
 use Rattle.lookup.specs.Case.{Q}
 use Rattle.lookup.specs.Bounded.{Bounded}
-use Rattle.lookup.specs.Method3.{comparison-table, scratch-3, place-3, compared}
+use Rattle.lookup.specs.Method3.{comparison-table, place-3, compared}
 use Rattle.lookup.proofs.Third.{comparison-long, place-below, compared-small}
-
--- the prepared scratch begins with it
-pub prepared : (c : Case) (before scratch : List ℕ) → scratch ≡ scratch-3 c before → take (Q c) scratch ≡ comparison-table c
-unfolding scratch-3
-prepared c before scratch e = rw e (take-at (comparison-table c) _ (Q c) (comparison-long c before))
 
 module _ (c : Case) (scratch : List ℕ) (a : ℕ) (k : Bounded c) (h : a < 2 ^ c .n) where
   small : place-3 c a < 2 ^ c .n

@@ -1,5 +1,5 @@
 -- What the loops of method 3 keep, and what a turn reads in the prepared scratch.
-pub mod Preparing
+pub mod Prepared
 pub mod Comparing
 pub mod Selecting
 pub mod Turned

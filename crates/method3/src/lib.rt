@@ -1,16 +1,18 @@
 // Method 3: the scratch says, masked by the bit b, which turn's entry is kept, and the answer is read from register b.
-// The calls have checked the case and measured the buffers, so the functions here have a `requires`.
+// The calls have checked the case and measured the buffers, so the runs have a `requires`.
 ghost use mathlib.Core.Path.{_≡_};
 ghost use mathlib.Core.List.{[], _∷_};
-ghost use Prim.Native.Nat.{_+_, _^_, _≤_, _<_};
+ghost use Prim.Native.Nat.{_^_, _≤_, _<_};
 ghost use lib.ListN.{length, take};
 ghost use Rattle.lookup.specs.Case.{Q};
 ghost use Rattle.lookup.specs.Bounded.{Bounded};
-ghost use Rattle.lookup.specs.Log.{entry};
 ghost use Rattle.lookup.specs.Method3.{comparison-table, scratch-3, place-3, registers-3, answer-3};
 use lookup::Case;
 
 pub mod logged;
+mod parts;
+
+pub use parts::log_length;
 
 // A run without a log: the scratch is prepared, each turn's entry goes to a register, and the answer is register b.
 pub fn run(case: Case, table: &[u8], scratch: &mut [u8]) -> u8
@@ -32,6 +34,7 @@ fn prepare(case: Case, scratch: &mut [u8])
     requires { ⌜ Bounded case ⌝ }
     requires { ⌜ 2 ^ case .n ≤ length (now scratch) ⌝ }
     ensures { λ _. ⌜ now (scratch .exit) ≡ scratch-3 case (now (scratch .entry)) ⌝ }
+    ensures { λ _. ⌜ take (Q case) (now (scratch .exit)) ≡ comparison-table case ⌝ }
 {
     let size = bits::power(case.n) as usize;
     let r3 = case.r3 as usize;

@@ -1,4 +1,4 @@
--- What two tests of Booleans say. Assumes nothing.
+-- What two tests of Booleans say.
 use mathlib.Core.Path.{_≡_, refl}
 use mathlib.Core.Bool.{Bool, true, false, not, Bool·beq}
 use lib.Dec.{T}

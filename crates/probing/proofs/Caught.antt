@@ -1,5 +1,5 @@
 -- Pairs that leak, and that the leak test therefore must not pass: one at least for each part of the test that keeps it sound.
--- Each is at most of three steps, and is shown to leak by the counts of the two values 0 and 0 for two lists of secrets. Assumes nothing.
+-- Each is at most of three steps, and is shown to leak by the counts of the two values 0 and 0 for two lists of secrets.
 use mathlib.Core.Path.{_≡_, refl}
 use mathlib.Core.Bool.{Bool, true, cond, not, _&&_}
 use mathlib.Core.List.{List, [], _∷_}
@@ -30,7 +30,7 @@ leak w0 w1 w2 w3 flag input answer one other =
 -- three masks for an input, two for an answer and one of a class of its own; the input and the answer, its entry in the one table, are secret
 abbrev pub system : (flag : ℕ) → System
 system flag =
-    record { masks = 0 ∷ 0 ∷ 0 ∷ 1 ∷ 1 ∷ 2 ∷ []; secrets = 0 ∷ 1 ∷ []; tables = record { from = 0; to = 1; entry = 1 } ∷ []; flag = flag }
+    record { masks = 0 ∷ 0 ∷ 0 ∷ 1 ∷ 1 ∷ 2 ∷ []; secrets = 0 ∷ 1 ∷ []; tables = record { from = 0; to = 1; output = 1 } ∷ []; flag = flag }
 
 -- an even table, 0 past its end; a table that is not among the system's may hold anything, here 2z
 entry-of : (widths : List ℕ) → (table z : ℕ) → ℕ

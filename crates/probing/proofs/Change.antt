@@ -1,4 +1,4 @@
--- One number of a choice changed: what stands at each place then, and that the choice stays within its widths. Assumes nothing.
+-- One number of a choice changed: what stands at each place then, and that the choice stays within its widths.
 use mathlib.Core.Path.{_≡_, refl}
 use mathlib.Core.Bool.{Bool, true, false, cond}
 use mathlib.Core.List.{List}
@@ -14,8 +14,8 @@ changed (suc i) v c zero = rw (eqb·zero-suc i)
 changed (suc i) v c (suc k) = rw (eqb·suc-suc k i) (changed i v (λ j. c (suc j)) k)
 
 pub within-change : {ws : List ℕ} (i : ℕ) {v : ℕ} {c : ℕ → ℕ} → v < 2 ^ width ws i → Within ws c → Within ws (change i v c)
-within-change {ws} i {v} {c} h within = record { each = λ k. rw (changed i v c k) (go k (eqb k i) refl) }
+within-change {ws} i {v} {c} h within = record { each = λ k. rw (changed i v c k) (within-change-by-cases k (eqb k i) refl) }
   where
-    go : (k : ℕ) (same : Bool) → eqb k i ≡ same → cond same v (c k) < 2 ^ width ws k
-    go k true e = rw (eqb-true k i e) h
-    go k false e = within .each k
+    within-change-by-cases : (k : ℕ) (same : Bool) → eqb k i ≡ same → cond same v (c k) < 2 ^ width ws k
+    within-change-by-cases k true e = rw (eqb-true k i e) h
+    within-change-by-cases k false e = within .each k

@@ -1,4 +1,4 @@
--- An expression of a class is a number of that class's width. Assumes nothing.
+-- An expression of a class is a number of that class's width.
 use mathlib.Core.Bool.{Bool, true, false, cond}
 use mathlib.Core.List.{List, [], _∷_}
 use Prim.Native.Nat.{ℕ, zero, suc, _^_, _≤_, _<_}
@@ -15,7 +15,8 @@ use Rattle.probing.specs.Alike.{Valid, Known}
 use Rattle.probing.specs.Test.{of-class}
 
 -- the number at a place whose class is the class; past the list it is 0, which is of every class
-named : (setting : Setting) (classes : List ℕ) {numbers : ℕ → ℕ} (i class : ℕ) → Valid setting classes numbers → T (eqb (getD classes i class) class)
+named : (setting : Setting) (classes : List ℕ) {numbers : ℕ → ℕ} (i class : ℕ) → Valid setting classes numbers
+    → T (eqb (getD classes i class) class)
     → numbers i < 2 ^ setting .width class
 unfolding width
 named setting [] i class h t = le-trans (h .each i) (pow-pos _)

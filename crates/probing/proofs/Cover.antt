@@ -1,5 +1,5 @@
 -- A mask that is absent from f, over all its numbers: what is added to it in e changes no sum. So e may be replaced by the mask, or be off by
--- the difference of two entries of a table in which the mask is looked up. Assumes nothing.
+-- the difference of two entries of a table in which the mask is looked up.
 use mathlib.Core.Path.{_≡_, sym, ap, ap₂, _∙_}
 use Prim.Native.Nat.{ℕ, _^_, _<_}
 use lib.Dec.{T}
@@ -13,7 +13,7 @@ use Rattle.counting.proofs.Shift.{shift}
 use Rattle.counting.proofs.Choice.{change-at}
 use Rattle.counting.proofs.Over.{over-local}
 use Rattle.probing.specs.Expression.{Expression, mask, System, Setting, value}
-use Rattle.probing.specs.Alike.{widths, Valid, seen, Even, Known}
+use Rattle.probing.specs.Alike.{widths, Valid, seen, Even-for, Known}
 use Rattle.probing.specs.Test.{of-class, absent, indexing}
 use Rattle.probing.proofs.Masks.{absent-value, Plus, Shows, rest-is}
 use Rattle.probing.proofs.Class.{class-below}
@@ -35,7 +35,8 @@ module _ (system : System) (setting : Setting) {hs ts : ℕ → ℕ} (known : Kn
     {vs : ℕ → ℕ} (valid : Valid setting (system .secrets) vs)
     (i k : ℕ) (size : width (widths setting (system .masks)) i ≡ setting .width k) (f : Expression) (t : T (absent i f)) where
   -- what is added to the mask is of its class where the whole is
-  rest-below : {c : ℕ → ℕ} → Valid setting (system .masks) c → (e : Expression) → T (of-class system k e) → (p : Plus setting vs i c (λ r. r) e)
+  rest-below : {c : ℕ → ℕ} → Valid setting (system .masks) c → (e : Expression) → T (of-class system k e)
+      → (p : Plus setting vs i c (λ r. r) e)
       → p .0 < 2 ^ setting .width k
   rest-below {c} within e u p =
       rw (rest-is setting vs i c e p) (below _ (rw size at (within .each i)) (class-below system setting known valid within k e u))
@@ -51,7 +52,7 @@ module _ (system : System) (setting : Setting) {hs ts : ℕ → ℕ} (known : Kn
       ∙ sym (free setting vs i c f t g (λ z. z) (mask i) _ (pow-pos _) (λ r. change-at i r c ∙ sym (zero-r r)))))
 
   pub evened : (n : ℕ) (index e : Expression) → T (of-class system k index) → ((c : ℕ → ℕ) → Shows setting vs i c (indexing n index) e)
-      → (d : ℕ) → Even (2 ^ setting .width k) (setting .tables n) d → (g : ℕ → ℕ → ℕ)
+      → (d : ℕ) → Even-for (2 ^ setting .width k) (setting .tables n) d → (g : ℕ → ℕ → ℕ)
       → seen system setting vs (λ x y. g (x ⊕ d) y) e f ≡ seen system setting vs g e f
   evened n index e u p d even g =
       over-local (widths setting (system .masks)) i _ _

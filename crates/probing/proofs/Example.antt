@@ -1,4 +1,4 @@
--- The leak test on a small system: pairs that pass, and what passing says for one table. Assumes nothing.
+-- The leak test on a small system: pairs that pass, and what passing says for one table.
 use mathlib.Core.Path.{sym, ap, _∙_}
 use mathlib.Core.Bool.{cond}
 use mathlib.Core.List.{List, [], _∷_}
@@ -14,7 +14,7 @@ use Rattle.counting.proofs.Sum.{sum-ext}
 use Rattle.counting.proofs.Shift.{shift}
 use Rattle.counting.proofs.Choice.{within-none, within-more}
 use Rattle.probing.specs.Expression.{Expression, secret, mask, number, _⊞_, lookup, differ, Setting}
-use Rattle.probing.specs.Alike.{Alike, Even, Known}
+use Rattle.probing.specs.Alike.{Alike, Even-for, Known}
 use Rattle.probing.specs.Test.{fine, all-fine}
 use Rattle.probing.proofs.Caught.{system}
 use Rattle.probing.proofs.Sound.{alike}
@@ -29,8 +29,8 @@ abbrev answer : Expression
 answer = secret 1 ⊞ mask 3 ⊞ mask 4
 
 -- the loop number a is public
-abbrev entry : (a : ℕ) → Expression
-entry a = lookup 0 (input ⊞ number 0 a) ⊞ mask 3 ⊞ mask 4
+abbrev masked-entry : (a : ℕ) → Expression
+masked-entry a = lookup 0 (input ⊞ number 0 a) ⊞ mask 3 ⊞ mask 4
 
 -- whether a is what the input is masked by
 abbrev compared : (a : ℕ) → Expression
@@ -41,7 +41,7 @@ input-refreshed : T (fine (system 3) input refreshed)
 unfolding fine
 input-refreshed = tt
 
-entry-answer : (flag a : ℕ) → T (fine (system flag) (entry a) answer)
+entry-answer : (flag a : ℕ) → T (fine (system flag) (masked-entry a) answer)
 unfolding fine
 entry-answer flag a = tt
 
@@ -50,7 +50,7 @@ unfolding fine
 compared-input a = tt
 
 abbrev steps : (a : ℕ) → List Expression
-steps a = input ∷ refreshed ∷ compared a ⊞ mask 5 ∷ entry a ∷ answer ∷ []
+steps a = input ∷ refreshed ∷ compared a ⊞ mask 5 ∷ masked-entry a ∷ answer ∷ []
 
 all-pairs : (a a' : ℕ) → T (all-fine (system 2) (steps a) (steps a'))
 unfolding all-fine
@@ -60,7 +60,7 @@ all-pairs a a' = tt
 abbrev setting : (n : ℕ) → Setting
 setting n = record { width = λ class. cond (eqb class 2) 1 n; tables = λ t z. z % 2 ^ n }
 
-same-even : (n : ℕ) {d : ℕ} → d < 2 ^ n → Even (2 ^ n) (λ z. z % 2 ^ n) d
+same-even : (n : ℕ) {d : ℕ} → d < 2 ^ n → Even-for (2 ^ n) (λ z. z % 2 ^ n) d
 same-even n {d} h g =
     sum-ext (2 ^ n) (λ z l. ap (λ x. g (x ⊕ d)) (mod-eq-of-lt l)) ∙ shift n g h ∙ sym (sum-ext (2 ^ n) (λ z l. ap g (mod-eq-of-lt l)))
 
@@ -74,5 +74,6 @@ known n x y h l =
       even = elim [ zero ↦ λ b. same-even n (below n h l) | suc t ↦ λ b. absurd (omega arith) ];
     }
 
-entry-tells-nothing : (n x y a : ℕ) → x < 2 ^ n → y < 2 ^ n → Alike (system 2) (setting n) (x ▸ x ▸ (λ i. 0)) (y ▸ y ▸ (λ i. 0)) (entry a) answer
-entry-tells-nothing n x y a h l = alike (system 2) (setting n) (known n x y h l) (entry a) answer (entry-answer 2 a)
+entry-tells-nothing : (n x y a : ℕ) → x < 2 ^ n → y < 2 ^ n
+    → Alike (system 2) (setting n) (x ▸ x ▸ (λ i. 0)) (y ▸ y ▸ (λ i. 0)) (masked-entry a) answer
+entry-tells-nothing n x y a h l = alike (system 2) (setting n) (known n x y h l) (masked-entry a) answer (entry-answer 2 a)

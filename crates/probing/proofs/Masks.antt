@@ -1,5 +1,4 @@
 -- A mask that is absent from an expression may be changed freely; and what a sum shows as a mask changes, from how the mask stands in it.
--- Assumes nothing.
 use mathlib.Core.Path.{_≡_, refl, sym, ap, ap₂, _∙_}
 use mathlib.Core.Bool.{Bool, true, false, cond}
 use Prim.Native.Nat.{ℕ}
@@ -59,19 +58,21 @@ module _ (setting : Setting) (vs : ℕ → ℕ) (i : ℕ) (c : ℕ → ℕ) wher
   pub shows : (e : Expression) → Shows (standing i e) e
   unfolding value standing
   shows (secret j) = tt
-  shows (mask k) = go (eqb k i) refl
+  shows (mask k) = shows-by-cases (eqb k i) refl
     where
-      go : (same : Bool) → eqb k i ≡ same → Shows (cond same added otherwise) (mask k)
-      go true e = (0, λ r. rw (eqb-true k i e) (change-at i r c ∙ sym (zero-r r)))
-      go false e = tt
+      shows-by-cases : (same : Bool) → eqb k i ≡ same → Shows (cond same added otherwise) (mask k)
+      shows-by-cases true e = (0, λ r. rw (eqb-true k i e) (change-at i r c ∙ sym (zero-r r)))
+      shows-by-cases false e = tt
   shows (number class a) = tt
-  shows (e ⊞ f) = go (shows e) (shows f) (absent i f) (absent i e) (λ t. t) (λ t. t)
+  shows (e ⊞ f) = shows-by-cases (shows e) (shows f) (absent i f) (absent i e) (λ t. t) (λ t. t)
     where
-      go : Shows (standing i e) e → Shows (standing i f) f → (f-lacks e-lacks : Bool) → (T f-lacks → T (absent i f)) → (T e-lacks → T (absent i e))
+      shows-by-cases : Shows (standing i e) e → Shows (standing i f) f → (f-lacks e-lacks : Bool) → (T f-lacks → T (absent i f))
+          → (T e-lacks → T (absent i e))
           → Shows (cond f-lacks (standing i e) (cond e-lacks (standing i f) otherwise)) (e ⊞ f)
-      go p q true b h k = more (standing i e) e (e ⊞ f) (value setting vs c f) (λ r. rw (absent-value r f (h tt))) p
-      go p q false true h k = more (standing i f) f (e ⊞ f) (value setting vs c e) (λ r. rw (absent-value r e (k tt)) (comm _ _)) q
-      go p q false false h k = tt
+      shows-by-cases p q true b h k = more (standing i e) e (e ⊞ f) (value setting vs c f) (λ r. rw (absent-value r f (h tt))) p
+      shows-by-cases p q false true h k =
+          more (standing i f) f (e ⊞ f) (value setting vs c e) (λ r. rw (absent-value r e (k tt)) (comm _ _)) q
+      shows-by-cases p q false false h k = tt
   shows (lookup n e) = looked n e (standing i e) (shows e)
   shows (differ e f) = tt
 

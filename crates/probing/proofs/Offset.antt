@@ -1,5 +1,5 @@
 -- Where one secret is changed and the masks are shifted, an expression is off by the difference of the secret's two values, or kept, as
--- `off` says. Assumes nothing.
+-- `off` says.
 use mathlib.Core.Path.{_≡_, refl, sym, ap, ap₂, _∙_}
 use mathlib.Core.Bool.{Bool, true, false, cond, not, _&&_, Bool·beq, xor}
 use mathlib.Core.List.{List}
@@ -26,19 +26,19 @@ sum-off false false x y d = simp xors
 
 -- two numbers that are off alike are equal where they were
 alike-off : (a b d : ℕ) → eqb (a ⊕ d) (b ⊕ d) ≡ eqb a b
-alike-off a b d = go (eqb a b) refl
+alike-off a b d = alike-off-by-cases (eqb a b) refl
   where
-    go : (same : Bool) → eqb a b ≡ same → eqb (a ⊕ d) (b ⊕ d) ≡ same
-    go true e = eq-eqb _ _ (ap (λ x. x ⊕ d) (eqb-true a b e))
-    go false e = ne-eqb (a ⊕ d) (b ⊕ d) (λ h. eqb-false a b e (simp xors at (ap (λ x. d ⊕ x) h)))
+    alike-off-by-cases : (same : Bool) → eqb a b ≡ same → eqb (a ⊕ d) (b ⊕ d) ≡ same
+    alike-off-by-cases true e = eq-eqb _ _ (ap (λ x. x ⊕ d) (eqb-true a b e))
+    alike-off-by-cases false e = ne-eqb (a ⊕ d) (b ⊕ d) (λ h. eqb-false a b e (simp xors at (ap (λ x. d ⊕ x) h)))
 
 -- the secret itself is off by the difference, and the others are kept
 secret-off : (j v : ℕ) (vs : ℕ → ℕ) (k : ℕ) → cond (eqb k j) v (vs k) ≡ vs k ⊕ cond (eqb k j) (vs j ⊕ v) 0
-secret-off j v vs k = go (eqb k j) refl
+secret-off j v vs k = secret-off-by-cases (eqb k j) refl
   where
-    go : (same : Bool) → eqb k j ≡ same → cond same v (vs k) ≡ vs k ⊕ cond same (vs j ⊕ v) 0
-    go true e = rw (eqb-true k j e) (simp xors)
-    go false e = simp xors
+    secret-off-by-cases : (same : Bool) → eqb k j ≡ same → cond same v (vs k) ≡ vs k ⊕ cond same (vs j ⊕ v) 0
+    secret-off-by-cases true e = rw (eqb-true k j e) (simp xors)
+    secret-off-by-cases false e = simp xors
 
 -- the number that a shift adds to each mask
 abbrev pub shifting : (shift : List Bool) (difference : ℕ) → ℕ → ℕ
@@ -60,7 +60,8 @@ module _ (setting : Setting) (j : ℕ) (shift : List Bool) (vs : ℕ → ℕ) (v
   off-value (differ e f) t =
       let all = and-yes (tracked j shift e && tracked j shift f) (Bool·beq (off j shift e) (off j shift f)) t in
       let both = and-yes (tracked j shift e) (tracked j shift f) (all .0) in
-      ap₂ (λ a b. cond (eqb a b) 0 1) (rw (beq-same (off j shift e) (off j shift f) (all .1)) at (off-value e (both .0))) (off-value f (both .1))
+      ap₂ (λ a b. cond (eqb a b) 0 1) (rw (beq-same (off j shift e) (off j shift f) (all .1)) at (off-value e (both .0)))
+      (off-value f (both .1))
       ∙ rw alike-off (sym (zero-r _))
 
   pub off-by-value : (put-off : Bool) (e : Expression) → T (off-by j shift put-off e)

@@ -1,5 +1,4 @@
 -- The numbers of one choice at the first n places, and those of another after them: from one choice to the other, one place at a time.
--- Assumes nothing.
 use mathlib.Core.Path.{_≡_, refl, ap, fun-ext, _∙_}
 use mathlib.Core.List.{List, [], _∷_}
 use Prim.Native.Nat.{ℕ, zero, suc, _^_, _<_}
@@ -32,7 +31,8 @@ pub prefix-within : {ws : List ℕ} (n : ℕ) {new old : ℕ → ℕ} → Within
 unfolding prefix
 prefix-within {ws} n {new} {old} h k = record { each = λ i. either (λ i x. x < 2 ^ width ws i) n (h .each) (k .each) i }
   where
-    either : (P : ℕ → ℕ → Type 0) (n : ℕ) {new old : ℕ → ℕ} → ((i : ℕ) → P i (new i)) → ((i : ℕ) → P i (old i)) → (i : ℕ) → P i (prefix n new old i)
+    either : (P : ℕ → ℕ → Type 0) (n : ℕ) {new old : ℕ → ℕ} → ((i : ℕ) → P i (new i)) → ((i : ℕ) → P i (old i)) → (i : ℕ)
+        → P i (prefix n new old i)
     either P zero h k i = k i
     either P (suc n) h k zero = h zero
     either P (suc n) h k (suc i) = either (λ i. P (suc i)) n (λ i. h (suc i)) (λ i. k (suc i)) i

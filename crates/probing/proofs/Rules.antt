@@ -1,5 +1,4 @@
 -- The rules of the leak test are sound: where one secret is changed and a rule applies, two expressions are alike before and after.
--- Assumes nothing.
 use mathlib.Core.Path.{_≡_, sym, ap₂, _∙_}
 use mathlib.Core.Bool.{Bool, true, false, cond, _&&_, _||_}
 use mathlib.Core.Logic.{inl, inr}
@@ -12,8 +11,9 @@ use Rattle.bits.proofs.Xor.{below, zero-r}
 use Rattle.counting.specs.Choice.{width, change}
 use Rattle.counting.proofs.Over.{over-ext, over-shift}
 use Rattle.probing.specs.Expression.{Expression, mask, System, Setting, table, value}
-use Rattle.probing.specs.Alike.{widths, Valid, seen, Alike, Even, Known}
-use Rattle.probing.specs.Test.{off-by, shiftable, of-class, absent, Standing, added, indexing, otherwise, standing, leads, covered, masked, unseen}
+use Rattle.probing.specs.Alike.{widths, Valid, seen, Alike, Even-for, Known}
+use Rattle.probing.specs.Test.{off-by, shiftable, of-class, absent, Standing, added}
+use Rattle.probing.specs.Test.{indexing, otherwise, standing, leads, covered, masked, unseen}
 use Rattle.probing.proofs.Change.{within-change}
 use Rattle.probing.proofs.Offset.{off-by-value}
 use Rattle.probing.proofs.Masks.{Shows, shows}
@@ -32,7 +32,8 @@ module _ (system : System) (setting : Setting) {hs ts : ℕ → ℕ} (known : Kn
       → seen system setting vs' g e f ≡ seen system setting vs (λ x y. g (x ⊕ cond put-off (vs j ⊕ ts j) 0) y) e f
   unfolding shiftable
   moved put-off e f t g =
-      let found = some-shift-found setting class (vs j ⊕ ts j) (rw (← size) (below _ (valid .each j) (known .after .each j))) (system .masks) _ t in
+      let found
+      = some-shift-found setting class (vs j ⊕ ts j) (rw (← size) (below _ (valid .each j) (known .after .each j))) (system .masks) _ t in
       let both = and-yes (off-by j (found .0) put-off e) (off-by j (found .0) false f) (found .2) in
       let value-of = off-by-value setting j (found .0) vs (ts j) in
       sym (over-shift _ (λ c. g (value setting vs' c e) (value setting vs' c f)) _ (found .1))
@@ -43,12 +44,13 @@ module _ (system : System) (setting : Setting) {hs ts : ℕ → ℕ} (known : Kn
   kept e f t g = sym (moved false e f t g ∙ simp zero-r)
 
   -- the difference is one of two entries of a table that leads to the secret
-  even-here : (n k : ℕ) → T (leads system n k j) → Even (2 ^ setting .width k) (setting .tables n) (vs j ⊕ ts j)
+  even-here : (n k : ℕ) → T (leads system n k j) → Even-for (2 ^ setting .width k) (setting .tables n) (vs j ⊕ ts j)
   unfolding leads
   even-here n k t g =
-      let all = and-yes (ltb n (length (system .tables)) && eqb (table system n .from) k) (eqb (table system n .entry) j) t in
+      let all = and-yes (ltb n (length (system .tables)) && eqb (table system n .from) k) (eqb (table system n .output) j) t in
       let both = and-yes (ltb n (length (system .tables))) (eqb (table system n .from) k) (all .0) in
-      rw same (rw (eqb→eq (table system n .from) k (both .1), eqb→eq (table system n .entry) j (all .1)) at (known .even n (ltb→lt _ _ (both .0)) g))
+      rw same (rw (eqb→eq (table system n .from) k (both .1), eqb→eq (table system n .output) j (all .1)) at
+      (known .even n (ltb→lt _ _ (both .0)) g))
 
   -- the mask rule and the table rule, for a mask i of class k
   module _ (i k : ℕ) (wide : width (widths setting (system .masks)) i ≡ setting .width k) (e f : Expression) (t : T (absent i f)) where
@@ -82,6 +84,7 @@ module _ (system : System) (setting : Setting) {hs ts : ℕ → ℕ} (known : Kn
   unfolding unseen
   unseen-alike e f t =
       elim (or-yes (shiftable system j class false e f || masked system j class e f) (masked system j class f e) t) [
-        | inl h ↦ elim (or-yes (shiftable system j class false e f) (masked system j class e f) h) [ inl h ↦ kept e f h | inr h ↦ masked-alike e f h ]
+        | inl h ↦ elim (or-yes (shiftable system j class false e f)
+            (masked system j class e f) h) [ inl h ↦ kept e f h | inr h ↦ masked-alike e f h ]
         | inr h ↦ λ observer. masked-alike f e h (λ x y. observer y x)
       ]

@@ -1,5 +1,4 @@
 -- What the searches of the leak test find: each element of a list, a place or each place of a list, and a shift of masks of one class.
--- Assumes nothing.
 use mathlib.Core.Path.{_≡_, refl}
 use mathlib.Core.Bool.{Bool, true, false, cond, _&&_}
 use mathlib.Core.Logic.{inl, inr}
@@ -17,7 +16,8 @@ use Rattle.probing.specs.Alike.{widths}
 use Rattle.probing.specs.Search.{some-shift, some-place, each-place, every}
 use Rattle.probing.proofs.Offset.{shifting}
 
-pub every-passes : {A : Type 0} (xs : List A) (test : A → Bool) → T (every test xs) → (i : ℕ) (d : A) → i < length xs → T (test (getD xs i d))
+pub every-passes : {A : Type 0} (xs : List A) (test : A → Bool) → T (every test xs) → (i : ℕ) (d : A) → i < length xs
+    → T (test (getD xs i d))
 unfolding every
 every-passes [] test t i d h = absurd (omega arith)
 every-passes (x ∷ xs) test t zero d h = and-yes (test x) (every test xs) t .0
@@ -35,7 +35,8 @@ module _ (setting : Setting) where
       elim (or-yes (test 0 k) (some-place ks (λ i. test (suc i))) t)
       [ inl h ↦ (0, (k, refl, h)) | inr h ↦ let found = some-place-found ks (λ i. test (suc i)) h in (suc (found .0), found .1) ]
 
-  pub each-place-passes : (classes : List ℕ) (test : ℕ → ℕ → Bool) → T (each-place classes test) → (j : ℕ) → j < length classes → Place classes test j
+  pub each-place-passes : (classes : List ℕ) (test : ℕ → ℕ → Bool) → T (each-place classes test) → (j : ℕ) → j < length classes
+      → Place classes test j
   unfolding each-place width
   each-place-passes [] test t j h = absurd (omega arith)
   each-place-passes (k ∷ ks) test t zero h = (k, refl, and-yes (test 0 k) (each-place ks (λ i. test (suc i))) t .0)
@@ -56,7 +57,8 @@ module _ (setting : Setting) where
     unfolding some-shift
     some-shift-found [] test t = ([], within-none, t)
     some-shift-found (k ∷ ks) test t =
-        elim (or-yes (some-shift class ks (λ shift. test (false ∷ shift))) (eqb k class && some-shift class ks (λ shift. test (true ∷ shift))) t) [
+        elim (or-yes (some-shift class ks (λ shift. test (false ∷ shift)))
+        (eqb k class && some-shift class ks (λ shift. test (true ∷ shift))) t) [
           | inl l ↦ longer k ks false test (pow-pos _) (some-shift-found ks (λ shift. test (false ∷ shift)) l)
           | inr l ↦
               let both = and-yes (eqb k class) (some-shift class ks (λ shift. test (true ∷ shift))) l in

@@ -1,4 +1,4 @@
--- The leak test is sound: expressions that pass it are alike for any two lists of secrets. Assumes nothing.
+-- The leak test is sound: expressions that pass it are alike for any two lists of secrets.
 use mathlib.Core.Path.{_∙_}
 use mathlib.Core.List.{List}
 use Prim.Native.Nat.{ℕ, zero, suc, _≤_, _<_}
@@ -15,14 +15,16 @@ use Rattle.probing.proofs.Prefix.{prefix, prefix-none, prefix-at, prefi
 
 module _ (system : System) (setting : Setting) {hs ts : ℕ → ℕ} (known : Known system setting hs ts) where
   -- the first n secrets changed
-  prefix-alike : (e f : Expression) → T (fine system e f) → (n : ℕ) → n ≤ length (system .secrets) → Alike system setting hs (prefix n ts hs) e f
+  prefix-alike : (e f : Expression) → T (fine system e f) → (n : ℕ) → n ≤ length (system .secrets)
+      → Alike system setting hs (prefix n ts hs) e f
   unfolding fine
   prefix-alike e f t zero h observer = rw prefix-none
   prefix-alike e f t (suc n) h observer =
       let at = each-place-passes setting (system .secrets) _ t n h in
       prefix-alike e f t n (omega arith) observer
       ∙ rw (← prefix-next n ts hs)
-      (unseen-alike system setting known (prefix-within n (known .after) (known .before)) n (at .0) (at .1) (prefix-at n ts hs) e f (at .2) observer)
+      (unseen-alike system setting known (prefix-within n (known .after) (known .before)) n (at .0) (at .1) (prefix-at n ts hs) e f
+      (at .2) observer)
 
   pub alike : (e f : Expression) → T (fine system e f) → Alike system setting hs ts e f
   alike e f t =

@@ -1,5 +1,5 @@
 -- When two values that an algorithm shows tell nothing of its secrets: whatever an observer computes from the two, it comes out equally
--- often, over all choices of the masks, for the secrets hs and for the secrets ts. Assumes nothing: these are definitions.
+-- often, over all choices of the masks, for the secrets hs and for the secrets ts.
 use mathlib.Core.Path.{_≡_}
 use mathlib.Core.List.{List, map}
 use Prim.Native.Nat.{ℕ, _^_, _≤_, _<_}
@@ -25,15 +25,16 @@ abbrev pub Alike : System → Setting → (hs ts : ℕ → ℕ) → Expression �
 Alike system setting hs ts e f = (observer : ℕ → ℕ → ℕ) → seen system setting hs observer e f ≡ seen system setting ts observer e f
 
 -- added to all the entries of a table, the difference only puts them in another order
-abbrev pub Even : (size : ℕ) → (entry : ℕ → ℕ) → (difference : ℕ) → Type 0
-Even size entry d = (observer : ℕ → ℕ) → sum size (λ z. observer (entry z ⊕ d)) ≡ sum size (λ z. observer (entry z))
+abbrev pub Even-for : (size : ℕ) → (entry : ℕ → ℕ) → (difference : ℕ) → Type 0
+Even-for size entry d = (observer : ℕ → ℕ) → sum size (λ z. observer (entry z ⊕ d)) ≡ sum size (λ z. observer (entry z))
 
 -- What is assumed of the values. The secrets are of their classes; a comparison's result, 0 or 1, fits its class; a table's entries are of
--- their class, and it is even for the two values of the secret that is one of its entries. Nothing is assumed of how the secrets hang together.
+-- their class, and it is even for the two values of the secret that is one of its entries. Nothing is assumed of how the secrets hang
+-- together.
 pub record Known (system : System) (setting : Setting) (hs ts : ℕ → ℕ) : Type 0 where
   pub before : Valid setting (system .secrets) hs
   pub after : Valid setting (system .secrets) ts
   pub flag : 1 ≤ setting .width (system .flag)
   pub entries : (t : ℕ) → t < length (system .tables) → (index : ℕ) → setting .tables t index < 2 ^ setting .width (table system t .to)
   pub even : (t : ℕ) → t < length (system .tables)
-      → Even (2 ^ setting .width (table system t .from)) (setting .tables t) (hs (table system t .entry) ⊕ ts (table system t .entry))
+      → Even-for (2 ^ setting .width (table system t .from)) (setting .tables t) (hs (table system t .output) ⊕ ts (table system t .output))

@@ -1,5 +1,5 @@
 -- What a masked algorithm computes, as expressions over its secrets and masks, and their values. Each number has a class 0, 1, 2, ..,
--- and a setting gives each class its width in bits. Assumes nothing: these are definitions.
+-- and a setting gives each class its width in bits.
 use mathlib.Core.Bool.{cond}
 use mathlib.Core.List.{List}
 use Prim.Native.Nat.{ℕ, _%_, _^_}
@@ -16,11 +16,11 @@ pub data Expression : Type 0 where
   lookup : (table : ℕ) → Expression → Expression
   differ : Expression → Expression → Expression
 
--- a table's index is of the class `from`, its entries are of the class `to`, and the secret at the place `entry` is one of its entries
+-- a table's index is of the class `from`, its entries are of the class `to`, and the secret at the place `output` is one of its entries
 pub record Table : Type 0 where
   pub from : ℕ
   pub to : ℕ
-  pub entry : ℕ
+  pub output : ℕ
 
 -- the classes of the masks, of the secrets and of a comparison's result, and the tables
 pub record System : Type 0 where
@@ -30,7 +30,7 @@ pub record System : Type 0 where
   pub flag : ℕ
 
 abbrev pub table : System → ℕ → Table
-table system t = getD (system .tables) t (record { from = 0; to = 0; entry = 0 })
+table system t = getD (system .tables) t (record { from = 0; to = 0; output = 0 })
 
 -- the width of each class, and each table's entry at an index
 pub record Setting : Type 0 where

@@ -1,5 +1,4 @@
 -- Searches that compute: each takes a test, and stops where it is decided, because what a `let` binds is computed only where it is read.
--- Assumes nothing: these are definitions.
 use mathlib.Core.Bool.{Bool, true, false, _&&_, _||_}
 use mathlib.Core.List.{List, [], _∷_}
 use Prim.Native.Nat.{ℕ, suc}

@@ -1,8 +1,9 @@
--- The leak test. `fine system e f` computes, and where it passes, whoever sees the values of e and f learns nothing of the secrets: for every
--- even table and all widths, whatever is computed from the two comes out equally often whatever the secrets are. That is `Alike`, and `alike`
--- of proofs/Sound proves it, so nothing here need be believed. To test an algorithm, list its masks, secrets and tables as a System, write each
--- value that it shows as an expression, and run `all-fine` on lists of them; one probe alone is an expression beside itself. The test reads the
--- class of a public number and never its value, which may be a variable. It may fail where nothing leaks. Assumes nothing: these are definitions.
+-- The leak test. `fine system e f` computes, and where it passes, whoever sees the values of e and f learns nothing of the secrets: for
+-- every even table and all widths, whatever is computed from the two comes out equally often whatever the secrets are. That is `Alike`,
+-- and `alike` of proofs/Sound proves it, so nothing here need be believed. To test an algorithm, list its masks, secrets and tables as
+-- a System, write each value that it shows as an expression, and run `all-fine` on lists of them; one probe alone is an expression
+-- beside itself. The test reads the class of a public number and never its value, which may be a variable. It may fail where nothing
+-- leaks.
 use mathlib.Core.Bool.{Bool, true, false, cond, not, _&&_, _||_, Bool·beq, xor}
 use mathlib.Core.List.{List}
 use Prim.Native.Nat.{ℕ}
@@ -80,7 +81,7 @@ standing i (differ e f) = otherwise
 
 -- the table's index is of the class, and the secret at place j is one of its entries
 unfoldable pub leads : System → (table class place : ℕ) → Bool
-leads system t class j = ltb t (length (system .tables)) && eqb (table system t .from) class && eqb (table system t .entry) j
+leads system t class j = ltb t (length (system .tables)) && eqb (table system t .from) class && eqb (table system t .output) j
 
 -- The two rules for a mask i of class k that is absent from f. Where it is added to the whole of e, e may be replaced by it. Where it is
 -- added to a table's index, it makes the index any number of its class, so e may be off by the difference of two entries of the table.

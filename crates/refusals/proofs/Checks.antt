@@ -1,4 +1,4 @@
--- The laws of a list of checks, as code that goes through it needs them. Assumes nothing.
+-- The laws of a list of checks, as code that goes through it needs them.
 use mathlib.Core.Path.{_≡_, refl, sym}
 use mathlib.Core.Bool.{Bool, true, false, _&&_, cond, and-eq-true-iff}
 use mathlib.Core.List.{List, [], _∷_, _++_}
@@ -18,9 +18,9 @@ pub goes : {t : Bool} {r : ℕ} (k : ℕ) (cs : List Check) → t ≡ false → 
 unfolding first-of
 goes k cs e f = rw e f
 
-pub ends : 0 ≡ first-of []
+pub none-applies : 0 ≡ first-of []
 unfolding first-of
-ends = refl
+none-applies = refl
 
 -- nothing was refused, so the first check does not apply, nor a later one
 past : (t : Bool) (k r : ℕ) → 0 < k → cond t k r ≡ 0 → (t ≡ false) × (r ≡ 0)
@@ -50,11 +50,12 @@ passed-both (c ∷ cs) ds h e =
 pub stops-both : {r : ℕ} (cs ds : List Check) → r ≡ first-of cs → (r ≡ 0 → ⊥) → r ≡ first-of (cs ++ ds)
 unfolding first-of
 stops-both [] ds e h = absurd (h e)
-stops-both {r} (c ∷ cs) ds e h = go (c .applies) e (λ f. stops-both cs ds f h)
+stops-both {r} (c ∷ cs) ds e h = stops-both-by-cases (c .applies) e (λ f. stops-both cs ds f h)
   where
-    go : (t : Bool) → r ≡ cond t (c .number) (first-of cs) → (r ≡ first-of cs → r ≡ first-of (cs ++ ds)) → r ≡ cond t (c .number) (first-of (cs ++ ds))
-    go true e f = e
-    go false e f = f e
+    stops-both-by-cases : (t : Bool) → r ≡ cond t (c .number) (first-of cs) → (r ≡ first-of cs → r ≡ first-of (cs ++ ds))
+        → r ≡ cond t (c .number) (first-of (cs ++ ds))
+    stops-both-by-cases true e f = e
+    stops-both-by-cases false e f = f e
 
 pub goes-both : {r : ℕ} (cs ds : List Check) → numbered cs ≡ true → 0 ≡ first-of cs → r ≡ first-of ds → r ≡ first-of (cs ++ ds)
 unfolding first-of numbered

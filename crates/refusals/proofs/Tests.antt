@@ -1,4 +1,4 @@
--- The laws of the tests. Assumes nothing.
+-- The laws of the tests.
 use mathlib.Core.Path.{_≡_, refl, sym, _∙_}
 use mathlib.Core.Bool.{Bool, true, false, _||_, true≢false, or-true}
 use mathlib.Core.List.{List, [], _∷_}
@@ -42,18 +42,21 @@ unfolding any-from
 none-below least = refl
 
 -- a loop over the list has its rest before it, whose first number stops the search, or does not, or is not there
-rest : (least : ℕ) (xs : List ℕ) (i : ℕ) → i < length xs → any-from least (drop i xs) ≡ (leb least (getD xs i 0) || any-from least (drop (i + 1) xs))
+rest : (least : ℕ) (xs : List ℕ) (i : ℕ) → i < length xs
+    → any-from least (drop i xs) ≡ (leb least (getD xs i 0) || any-from least (drop (i + 1) xs))
 unfolding any-from
 rest least xs i h = rw (drop-cons xs i 0 h, add-one)
 
-pub rest-stops : (least : ℕ) (xs : List ℕ) (i : ℕ) → i < length xs → least ≤ getD xs i 0 → any-from least xs ≡ any-from least (drop i xs) → true ≡ any-from least xs
+pub rest-stops : (least : ℕ) (xs : List ℕ) (i : ℕ) → i < length xs → least ≤ getD xs i 0 → any-from least xs ≡ any-from least (drop i xs)
+    → true ≡ any-from least xs
 rest-stops least xs i h l e = sym (e ∙ rest least xs i h ∙ rw (le-leb least (getD xs i 0) l))
 
 pub rest-goes : (least : ℕ) (xs : List ℕ) (i : ℕ) → i < length xs → getD xs i 0 < least → any-from least xs ≡ any-from least (drop i xs)
     → any-from least xs ≡ any-from least (drop (i + 1) xs)
 rest-goes least xs i h l e = e ∙ rest least xs i h ∙ rw (lt-leb least (getD xs i 0) l)
 
-pub rest-ends : (least : ℕ) (xs : List ℕ) (i : ℕ) → length xs ≤ i → any-from least xs ≡ any-from least (drop i xs) → false ≡ any-from least xs
+pub rest-ends : (least : ℕ) (xs : List ℕ) (i : ℕ) → length xs ≤ i → any-from least xs ≡ any-from least (drop i xs)
+    → false ≡ any-from least xs
 unfolding any-from
 rest-ends least xs i h e = sym (e ∙ rw (drop-of-length-le xs h))
 

@@ -1,4 +1,4 @@
--- Refusals: a call's checks as a list in their order, and the number that is handed back, the first that applies. Assumes nothing: these are definitions.
+-- Refusals: a call's checks as a list in their order, and the number that is handed back, the first that applies.
 use mathlib.Core.Bool.{Bool, cond}
 use mathlib.Core.List.{List, [], _∷_}
 use Prim.Native.Nat.{ℕ}

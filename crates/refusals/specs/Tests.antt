@@ -1,4 +1,4 @@
--- The tests that several refusals share. Assumes nothing: these are definitions.
+-- The tests that several refusals share.
 use mathlib.Core.Bool.{Bool, false, _||_}
 use mathlib.Core.List.{List, [], _∷_}
 use Prim.Native.Nat.{ℕ}

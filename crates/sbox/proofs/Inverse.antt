@@ -1,4 +1,4 @@
--- `inverse` is what its name says: a byte times its inverse is 1, for each byte but 0, of which it is 0. Assumes nothing.
+-- `inverse` is what its name says: a byte times its inverse is 1, for each byte but 0, of which it is 0.
 use mathlib.Core.Path.{_≡_, refl}
 use mathlib.Core.Bool.{Bool, true}
 use Prim.Native.Nat.{ℕ, zero, suc, _<_}
@@ -25,4 +25,5 @@ each-product = refl
 pub times-inverse : (b : ℕ) → 0 < b → b < 256 → times b (inverse b) ≡ 1
 unfolding product-is-one
 times-inverse zero h k = absurd (not-suc-le-zero h)
-times-inverse (suc b) h k = eqb-true (times (suc b) (inverse (suc b))) 1 (below 255 (λ i. product-is-one (suc i)) each-product b (le-of-suc-le-suc k))
+times-inverse (suc b) h k =
+    eqb-true (times (suc b) (inverse (suc b))) 1 (below 255 (λ i. product-is-one (suc i)) each-product b (le-of-suc-le-suc k))

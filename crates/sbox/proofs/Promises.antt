@@ -1,4 +1,4 @@
--- What is promised of the S-box holds. Assumes nothing.
+-- What is promised of the S-box holds.
 use Rattle.sbox.specs.Promises.{Entry-right, Inverse-right, Sbox-balanced}
 use Rattle.sbox.proofs.Inverse as inverse
 use Rattle.sbox.proofs.Sbox as sbox

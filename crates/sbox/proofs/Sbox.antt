@@ -1,5 +1,5 @@
--- The laws of the S-box: each entry is as the rule says, and the table is balanced: 256 entries, each of them a byte, and each byte exactly once.
--- Assumes nothing.
+-- The laws of the S-box: each entry is as the rule says, and the table is balanced: 256 entries, each of them a byte, and each byte
+-- exactly once.
 use mathlib.Core.Path.{_≡_, refl}
 use mathlib.Core.Bool.{true}
 use Prim.Native.Nat.{ℕ, _<_}
@@ -19,7 +19,8 @@ sbox-rule = tabulate-at 256 _
 
 -- the whole table is computed, and each byte counted in it
 pub sbox-balanced : balanced 8 8 sbox ≡ true
-unfolding balanced any-from each-often all-below count-of sbox tabulate affine from-bits affine-bit bit constant inverse square times times-bits xtime _⊕_
+unfolding balanced any-from each-often all-below count-of sbox tabulate affine from-bits affine-bit bit constant inverse square times
+    times-bits xtime _⊕_
 sbox-balanced = refl
 
 pub length-sbox : length sbox ≡ 256

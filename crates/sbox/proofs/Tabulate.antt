@@ -1,4 +1,4 @@
--- The table of a rule holds the rule's value at each place. Assumes nothing.
+-- The table of a rule holds the rule's value at each place.
 use mathlib.Core.Path.{_≡_, refl}
 use Prim.Native.Nat.{ℕ, zero, suc, _<_}
 use native.Mathlib.Nat.{le-of-suc-le-suc, not-suc-le-zero}

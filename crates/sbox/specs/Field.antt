@@ -1,5 +1,4 @@
 -- The field GF(2^8) of FIPS 197, section 4: a byte is a polynomial over the bits, and products are taken modulo x^8 + x^4 + x^3 + x + 1.
--- Assumes nothing: these are definitions.
 use mathlib.Core.Bool.{true, false}
 use Prim.Native.Nat.{ℕ, zero, suc, _-_, _*_, _/_, _%_}
 use lib.Dec.{ltb}

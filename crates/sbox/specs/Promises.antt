@@ -1,4 +1,4 @@
--- What is promised of the S-box. Each is a type; its proof stands in proofs/Promises.antt. Assumes nothing.
+-- What is promised of the S-box. Each is a type; its proof stands in proofs/Promises.antt.
 use mathlib.Core.Path.{_≡_}
 use mathlib.Core.Bool.{true}
 use Prim.Native.Nat.{ℕ, _<_}

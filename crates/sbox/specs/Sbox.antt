@@ -1,4 +1,4 @@
--- The S-box of FIPS 197, section 5.1.1: the inverse in GF(2^8), then an affine map over the bits. Assumes nothing: these are definitions.
+-- The S-box of FIPS 197, section 5.1.1: the inverse in GF(2^8), then an affine map over the bits.
 use mathlib.Core.List.{List, [], _∷_}
 use Prim.Native.Nat.{ℕ, _+_, _*_, _/_, _%_, _^_}
 use Rattle.bits.specs.Xor.{_⊕_}

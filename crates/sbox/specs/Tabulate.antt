@@ -1,4 +1,4 @@
--- The list of a rule's values at 0, 1, .., k - 1. Assumes nothing: this is a definition.
+-- The list of a rule's values at 0, 1, .., k - 1.
 use mathlib.Core.List.{List, [], _∷_}
 use Prim.Native.Nat.{ℕ, zero, suc}
 

@@ -1,21 +1,27 @@
--- The leak test passes on every pair of lines, at any two loop numbers, under both methods. Assumes nothing.
-use mathlib.Core.Path.{_≡_, refl}
+-- The leak test passes on every two rows of both methods, at any two turns; where it does, every two lines of a log pass it.
 use mathlib.Core.Bool.{Bool}
-use mathlib.Core.List.{List, [], _∷_, _++_}
-use Prim.Native.Nat.{ℕ, _<_}
+use mathlib.Core.List.{List, [], _∷_, _++_, map}
+use Prim.Native.Nat.{ℕ}
 use mir.Facts.{and-yes}
 use lib.Dec.{T}
 use lib.ListN.{getD}
 use Rattle.probing.specs.Expression.{Expression, System}
 use Rattle.probing.specs.Search.{every}
 use Rattle.probing.specs.Test.{fine, all-fine}
-use Rattle.lookup.specs.Layout.{Layout, lines}
-use Rattle.lookup.proofs.Layouts.{Each, none, more, each-first, each-rest, each-split, each-all, each-map, each-at, each-lines}
-use Rattle.secrecy.specs.Expressions.{system, pass-2, layout-2, pass-3, layout-3, nothing}
+use Rattle.lookup.specs.Layout.{Layout, lines, all-rows}
+use Rattle.lookup.specs.Method2.{method-2}
+use Rattle.lookup.specs.Method3.{method-3}
+use Rattle.lookup.proofs.Each.{Each, none, more, each-first, each-rest, each-split, each-all, each-map, each-at, each-source}
+use Rattle.lookup.proofs.Layouts.{each-line}
+use Rattle.secrecy.specs.Count.{single}
+use Rattle.secrecy.specs.Expressions.{Shown, nothing, shown-2, shown-3, system, alone}
 
--- the lines of a layout whose pass is at a, and the line of what lies past the end
-abbrev shape : Layout Expression → List Expression → List Expression
-shape l pass = nothing ∷ l .head ++ pass ++ l .end
+abbrev pub at-turn : (turn : ℕ) → Shown → Expression
+at-turn a e = e a
+
+-- all rows at turn a, behind what lies past the end
+abbrev pub rows-at : Layout Shown → (turn : ℕ) → List Expression
+rows-at l a = nothing ∷ map (at-turn a) (l .head ++ all-rows (l .passes) ++ l .end)
 
 -- a test that every element passes, element by element
 each-passed : (test : Expression → Bool) (es : List Expression) → T (every test es) → Each (λ e. T (test e)) es
@@ -29,29 +35,31 @@ each-pair : (s : System) (es fs : List Expression) → T (all-fine s es fs) → 
 unfolding all-fine
 each-pair s es fs t = each-map (λ e. each-passed (fine s e) fs) (each-passed _ es t)
 
-module _ (turns : ℕ) (l : Layout Expression) (pass : ℕ → List Expression) (one : l .passes ≡ pass ∷ []) where
-  -- what holds of the shape at every loop number holds at every position
-  everywhere : {P : Expression → Type 0} → ((a : ℕ) → Each P (shape l (pass a))) → (i : ℕ) → P (getD (lines turns l) i nothing)
-  everywhere h i =
-      let first = each-split (l .head ++ pass 0) (each-rest (h 0)) in
-      let middle : (a : ℕ) → a < turns → Each _ (pass a) = λ a _. each-split (l .head) (each-split (l .head ++ pass a) (each-rest (h a)) .0) .1 in
-      each-at nothing i (each-first (h 0)) (each-lines turns l pass one (each-split (l .head) (first .0) .0) middle (first .1))
+module _ (turns : ℕ) (l : Layout Shown) where
+  -- the line at a position
+  abbrev pub line : (position : ℕ) → Expression
+  line i = getD (lines at-turn turns l) i nothing
 
-  any-two : (s : System) → ((a a' : ℕ) → T (all-fine s (shape l (pass a)) (shape l (pass a'))))
-      → (i j : ℕ) → T (fine s (getD (lines turns l) i nothing) (getD (lines turns l) j nothing))
+  -- what holds of the rows at every turn holds at every position
+  everywhere : {P : Expression → Type 0} → ((a : ℕ) → Each P (rows-at l a)) → (i : ℕ) → P (line i)
+  everywhere {P} h i =
+      let all : (a : ℕ) → Each (λ r. P (at-turn a r)) (l .head ++ all-rows (l .passes) ++ l .end)
+      = λ a. each-source (at-turn a) _ (each-rest (h a)) in
+      let front : (a : ℕ) → Each (λ r. P (at-turn a r)) (l .head ++ all-rows (l .passes))
+      = λ a. each-split (l .head ++ all-rows (l .passes)) (all a) .0 in
+      each-at {P = P} nothing i (each-first (h 0))
+      (each-line at-turn turns l (each-split (l .head) (front 0) .0) (λ a _. each-split (l .head) (front a) .1)
+      (each-split (l .head ++ all-rows (l .passes)) (all 0) .1))
+
+  pub any-two : (s : System) → ((a a' : ℕ) → T (all-fine s (rows-at l a) (rows-at l a'))) → (i j : ℕ) → T (fine s (line i) (line j))
   any-two s t i j =
-      everywhere (λ a. each-map (λ e h. everywhere h j) (each-all (shape l (pass a)) (λ a'. each-pair s _ (shape l (pass a')) (t a a')))) i
+      everywhere (λ a. each-map (λ e h. everywhere h j) (each-all (rows-at l a) (λ a'. each-pair s _ (rows-at l a') (t a a')))) i
 
-fine-2 : (a a' : ℕ) → T (all-fine (system 2) (shape layout-2 (pass-2 a)) (shape layout-2 (pass-2 a')))
+-- the leak test, run on all pairs of rows at two variable turns
+pub fine-2 : (a a' : ℕ) → T (all-fine (system (method-2 .mask-classes)) (rows-at (shown-2 (alone single)) a) (rows-at (shown-2 (alone single)) a'))
 unfolding all-fine
 fine-2 a a' = tt
 
-fine-3 : (a a' : ℕ) → T (all-fine (system 3) (shape layout-3 (pass-3 a)) (shape layout-3 (pass-3 a')))
+pub fine-3 : (a a' : ℕ) → T (all-fine (system (method-3 .mask-classes)) (rows-at (shown-3 (alone single)) a) (rows-at (shown-3 (alone single)) a'))
 unfolding all-fine
 fine-3 a a' = tt
-
-pub any-two-2 : (turns i j : ℕ) → T (fine (system 2) (getD (lines turns layout-2) i nothing) (getD (lines turns layout-2) j nothing))
-any-two-2 turns = any-two turns layout-2 pass-2 refl (system 2) fine-2
-
-pub any-two-3 : (turns i j : ℕ) → T (fine (system 3) (getD (lines turns layout-3) i nothing) (getD (lines turns layout-3) j nothing))
-any-two-3 turns = any-two turns layout-3 pass-3 refl (system 3) fine-3

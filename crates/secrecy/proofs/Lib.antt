@@ -3,5 +3,6 @@ pub mod Sheet
 pub mod Fine
 pub mod Shown
 pub mod Observed
+pub mod Hiding
 pub mod Promises
 pub mod Lent

@@ -1,4 +1,4 @@
--- The bench sheet holds: each line computes to what the paper says. Assumes nothing.
+-- The bench sheet holds: each line computes to what the paper says.
 use mathlib.Core.Path.{refl}
 use Rattle.bits.specs.Xor.{_⊕_}
 use Rattle.counting.specs.Sum.{sum}
@@ -10,16 +10,22 @@ use Rattle.linear.specs.Layer.{odd-common, mapped, layer-refusal, layer}
 use lib.Count.{ones}
 use Rattle.table.specs.Balanced.{at, count-of, all-below, each-often, balanced}
 use Rattle.table.specs.Refusals.{table-checks}
-use Rattle.lookup.specs.Case.{Q, by-method}
-use Rattle.lookup.specs.Method2.{masked, r-prime, scratch-2, answer-2}
+use Rattle.lookup.specs.Case.{Q}
+use Rattle.lookup.specs.Entry.{entry, value-of}
+use Rattle.lookup.specs.Row.{masked}
+use Rattle.lookup.specs.Method2.{r-prime, scratch-2, answer-2}
 use Rattle.lookup.specs.Method3.{comparison-table, scratch-3, place-3, compared, registers-3, answer-3}
-use Rattle.lookup.specs.Call.{scratch-after, answer}
+use Rattle.lookup.specs.Methods.{among, found, known, method-of}
+use Rattle.lookup.specs.Call.{scratch-after, answer, log-of, log-length, scratch-length}
 use Rattle.lookup.specs.Layout.{pass-lines, passes-lines, lines}
-use Rattle.lookup.specs.Log.{entry, head-2, pass-2, end-2, layout-2, head-3, pass-3, end-3, layout-3, layout, log, log-length}
 use Rattle.lookup.specs.Refusals.{method-checks, mask-checks, scratch-checks, log-checks, case-checks, case-refusal, logged-refusal}
-use Rattle.secrecy.specs.Count.{case-of, mask-widths, value-at, shows, count}
+use Rattle.secrecy.specs.Count.{chosen-case, mask-widths, value-at, shows, count}
 use Rattle.secrecy.specs.BenchSheet.{sheet, Sheet-right}
 
 pub sheet-right : Sheet-right
-unfolding Sheet-right sheet _⊕_ sum over first-of outside any-from width-refusal reply secret-reply join odd-common mapped layer-refusal layer ones at count-of all-below each-often balanced table-checks Q by-method masked r-prime scratch-2 answer-2 comparison-table scratch-3 place-3 compared registers-3 answer-3 scratch-after answer pass-lines passes-lines lines entry head-2 pass-2 end-2 layout-2 head-3 pass-3 end-3 layout-3 layout log log-length method-checks mask-checks scratch-checks log-checks case-checks case-refusal logged-refusal case-of mask-widths value-at shows count
+unfolding Sheet-right sheet _⊕_ sum over first-of outside any-from width-refusal reply secret-reply join odd-common mapped
+    layer-refusal layer ones at count-of all-below each-often balanced table-checks Q masked r-prime scratch-2 answer-2
+    comparison-table scratch-3 place-3 compared registers-3 answer-3 scratch-after answer pass-lines passes-lines lines entry
+    value-of among found known method-of log-of log-length scratch-length method-checks mask-checks scratch-checks log-checks
+    case-checks case-refusal logged-refusal chosen-case mask-widths value-at shows count
 sheet-right = refl

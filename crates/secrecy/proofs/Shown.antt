@@ -1,8 +1,8 @@
--- The log's lines have the values of their expressions, for every input and every choice of masks in its widths. Assumes nothing.
+-- The rows of both methods show the values of their expressions, wherever the call's masks and secrets stand.
 use mathlib.Core.Path.{_≡_, refl, sym, ap, _∙_}
 use mathlib.Core.Bool.{cond}
 use mathlib.Core.List.{List, [], _∷_, map}
-use Prim.Native.Nat.{ℕ, zero, suc, _-_, _^_, _<_}
+use Prim.Native.Nat.{ℕ, zero, suc, _-_, _%_, _^_, _≤_, _<_}
 use native.Mathlib.Decide.{ℕ-discrete}
 use native.Mathlib.Nat.{mod-eq-of-lt}
 use native.Mathlib.Omega.{arith}
@@ -10,20 +10,19 @@ use borrow.Author.Tests.{eq-eqb, ne-eqb}
 use lib.Dec.{eqb}
 use Rattle.bits.specs.Xor.{_⊕_}
 use Rattle.bits.proofs.Xor.{xors, zero-l, comm}
-use Rattle.probing.specs.Expression.{Expression, value}
+use Rattle.probing.specs.Expression.{Setting, value}
 use Rattle.table.specs.Balanced.{at}
 use Rattle.lookup.specs.declared.Case.{Case}
 use Rattle.lookup.specs.Case.{Q}
-use Rattle.lookup.specs.Method2.{masked, r-prime}
-use Rattle.lookup.specs.Method3.{place-3, compared}
-use Rattle.lookup.specs.Layout.{lines}
-use Rattle.lookup.specs.Log.{head-2, pass-2, end-2, layout-2, head-3, pass-3, end-3, layout-3}
+use Rattle.lookup.specs.Row.{Row, masked}
+use Rattle.lookup.specs.Method.{Method}
+use Rattle.lookup.specs.Method2.{r-prime, pass-2, method-2}
+use Rattle.lookup.specs.Method3.{place-3, compared, pass-3, method-3}
 use Rattle.lookup.proofs.Second.{answer-2-is}
 use Rattle.lookup.proofs.Third.{answer-3-is, compared-hit, compared-miss, place-below}
-use Rattle.lookup.proofs.Layouts.{lines-agree}
-use Rattle.secrecy.specs.Count.{case-of}
-use Rattle.secrecy.specs.Expressions
-use Rattle.secrecy.specs.Expressions.{setting, secrets}
+use Rattle.lookup.proofs.Layouts.{Same-rows, no-pass, one-pass}
+use Rattle.secrecy.specs.Count.{chosen-case}
+use Rattle.secrecy.specs.Expressions.{Call-places, Shown, pass-shown-2, shown-2, pass-shown-3, shown-3}
 
 -- a bit's complement, as a sum
 complement : (b : ℕ) → b < 2 → 1 - b ≡ b ⊕ 1
@@ -32,40 +31,86 @@ complement zero h = refl
 complement (suc zero) h = refl
 complement (suc (suc b)) h = absurd (omega arith)
 
-module _ (table : List ℕ) (method n m x : ℕ) (c : ℕ → ℕ) (h1 : c 0 < 2 ^ n) (h2 : c 1 < 2 ^ n) (h3 : c 2 < 2 ^ n) where
-  abbrev shown : Expression → ℕ
-  shown e = value (setting n m table) (secrets table x) c e
+-- a call's masks and secrets among all masks and secrets
+pub record Stands (s : Call-places) (method : Method) (n x : ℕ) (table : List ℕ) (setting : Setting) (secrets masks : ℕ → ℕ) : Type 0 where
+  pub class : setting .width (s .class) ≡ n
+  pub bit : setting .width 3 ≡ 1
+  pub entries : (z : ℕ) → setting .tables (s .table) z ≡ at table z
+  pub input : secrets (s .x) ≡ x
+  pub output : secrets (s .output) ≡ at table x
+  pub small : x < 2 ^ n
+  pub r1 : masks (s .masks .r1) < 2 ^ n
+  pub r2 : masks (s .masks .r2) < 2 ^ n
+  pub r3 : masks (s .masks .r3) < 2 ^ n
+  pub b : masks (s .masks .b) ≤ method .b-most
 
+-- what rows show of the case, and what expressions show of the masks
+abbrev pub row-value : Case → (table : List ℕ) → (turn : ℕ) → Row → ℕ
+row-value c table a r = r .value c table a
+
+abbrev pub expression-value : Setting → (secrets masks : ℕ → ℕ) → (turn : ℕ) → Shown → ℕ
+expression-value setting secrets masks a e = value setting secrets masks (e a)
+
+module _ (s : Call-places) (number n m x : ℕ) (table : List ℕ) (setting : Setting) (secrets masks : ℕ → ℕ) where
   abbrev case : Case
-  case = case-of method n m x c
+  case = chosen-case (s .masks) number n m x masks
 
-  -- the masked entry of the turn that answers
-  answering : masked case table (c 0 ⊕ c 1) ≡ at table x ⊕ c 3 ⊕ c 4
-  unfolding masked case-of
-  answering =
-      let back : x ⊕ c 0 ⊕ c 1 ⊕ (c 0 ⊕ c 1) ≡ x = simp xors in
-      rw back
+  module _ (method : Method) (k : Stands s method n x table setting secrets masks) where
+    -- a turn's number is of the class
+    turn-kept : {a : ℕ} → a < 2 ^ n → a % 2 ^ setting .width (s .class) ≡ a
+    turn-kept h = rw (k .class) (mod-eq-of-lt h)
 
-  pub shown-2 : map (λ l. l .value) (lines (2 ^ n) (layout-2 case table)) ≡ map shown (lines (2 ^ n) Expressions.layout-2)
-  unfolding layout-2 head-2 pass-2 end-2 r-prime masked case-of value Q
-  shown-2 =
-      lines-agree (λ l. l .value) shown (2 ^ n) (layout-2 case table) Expressions.layout-2 (pass-2 case table) Expressions.pass-2 refl refl refl
-      (λ a h. rw (mod-eq-of-lt h))
-      (ap (λ v. c 2 ∷ v ∷ []) (answer-2-is case table h1 h2 h3 ∙ answering))
+    -- the masked entry of the turn that answers
+    answering : masked case table (masks (s .masks .r1) ⊕ masks (s .masks .r2))
+        ≡ secrets (s .output) ⊕ masks (s .masks .s1) ⊕ masks (s .masks .s2)
+    unfolding masked chosen-case
+    answering =
+        let back : x ⊕ masks (s .masks .r1) ⊕ masks (s .masks .r2) ⊕ (masks (s .masks .r1) ⊕ masks (s .masks .r2)) ≡ x = simp xors in
+        rw (back, k .output)
 
-  -- the comparison, as a sum
-  compared-shown : c 5 < 2 → (a : ℕ) → a < 2 ^ n → compared case a ≡ cond (eqb (place-3 case a) (c 2)) 0 1 ⊕ c 5
-  unfolding case-of Q
-  compared-shown hb a h = turn (ℕ-discrete (place-3 case a) (c 2))
-    where
-      turn : Dec (place-3 case a ≡ c 2) → compared case a ≡ cond (eqb (place-3 case a) (c 2)) 0 1 ⊕ c 5
-      turn (yes e) = compared-hit case table a h3 e ∙ sym (rw (eq-eqb _ _ e) (zero-l (c 5)))
-      turn (no ne) = compared-miss case table a (place-below case table a h h1 h2 h3) ne ∙ complement (c 5) hb ∙ sym (rw (ne-eqb _ _ ne) (comm 1 (c 5)))
+  pass-same-2 : Stands s method-2 n x table setting secrets masks → (a : ℕ) → a < 2 ^ n
+      → map (row-value case table a) pass-2 ≡ map (expression-value setting secrets masks a) (pass-shown-2 s)
+  unfolding r-prime masked chosen-case value
+  pass-same-2 k a h = rw (turn-kept method-2 k h, k .input) (simp (k .entries))
 
-  pub shown-3 : c 5 < 2 → map (λ l. l .value) (lines (2 ^ n) (layout-3 case table)) ≡ map shown (lines (2 ^ n) Expressions.layout-3)
-  unfolding layout-3 head-3 pass-3 end-3 place-3 masked case-of value Q
-  shown-3 hb =
-      lines-agree (λ l. l .value) shown (2 ^ n) (layout-3 case table) Expressions.layout-3 (pass-3 case table) Expressions.pass-3 refl refl
-      (rw (complement (c 5) hb))
-      (λ a h. rw (compared-shown hb a h, mod-eq-of-lt h))
-      (ap (λ v. c 5 ∷ v ∷ []) (answer-3-is case table hb h1 h2 h3 ∙ answering))
+  pub shows-2 : Stands s method-2 n x table setting secrets masks
+      → Same-rows (row-value case table) (expression-value setting secrets masks) (2 ^ n) (method-2 .layout) (shown-2 s)
+  unfolding r-prime masked chosen-case value Q
+  shows-2 k =
+      record {
+        head = rw (k .input);
+        passes = one-pass (pass-same-2 k) no-pass;
+        end = ap (λ v. masks (s .masks .r3) ∷ v ∷ []) (answer-2-is case table (k .r1) (k .r2) (k .r3) ∙ answering method-2 k);
+      }
+
+  module _ (k : Stands s method-3 n x table setting secrets masks) where
+    hb : masks (s .masks .b) < 2
+    hb = omega (arith, k .b)
+
+    -- the comparison, as a sum
+    compared-shown : (a : ℕ) → a < 2 ^ n
+        → compared case a ≡ cond (eqb (place-3 case a) (masks (s .masks .r3))) 0 1 ⊕ masks (s .masks .b)
+    unfolding chosen-case Q
+    compared-shown a h = turn (ℕ-discrete (place-3 case a) (masks (s .masks .r3)))
+      where
+        turn : Dec (place-3 case a ≡ masks (s .masks .r3))
+            → compared case a ≡ cond (eqb (place-3 case a) (masks (s .masks .r3))) 0 1 ⊕ masks (s .masks .b)
+        turn (yes e) = compared-hit case table a (k .r3) e ∙ sym (rw (eq-eqb _ _ e) (zero-l (masks (s .masks .b))))
+        turn (no ne) =
+            compared-miss case table a (place-below case table a h (k .r1) (k .r2) (k .r3)) ne
+            ∙ complement (masks (s .masks .b)) hb
+            ∙ sym (rw (ne-eqb _ _ ne) (comm 1 (masks (s .masks .b))))
+
+    pass-same-3 : (a : ℕ) → a < 2 ^ n
+        → map (row-value case table a) pass-3 ≡ map (expression-value setting secrets masks a) (pass-shown-3 s)
+    unfolding place-3 masked chosen-case value
+    pass-same-3 a h = rw (compared-shown a h, turn-kept method-3 k h, k .input) (simp (k .entries))
+
+    pub shows-3 : Same-rows (row-value case table) (expression-value setting secrets masks) (2 ^ n) (method-3 .layout) (shown-3 s)
+    unfolding place-3 masked chosen-case value Q
+    shows-3 =
+        record {
+          head = rw (k .input, k .bit, complement (masks (s .masks .b)) hb);
+          passes = one-pass pass-same-3 no-pass;
+          end = ap (λ v. masks (s .masks .b) ∷ v ∷ []) (answer-3-is case table hb (k .r1) (k .r2) (k .r3) ∙ answering method-3 k);
+        }

@@ -1,4 +1,4 @@
--- Document 01's bench sheet, P1 to P12: on each line what the definitions come to, and what the paper says. Assumes nothing: these are definitions.
+-- Document 01's bench sheet, P1 to P12: on each line what the definitions come to, and what the paper says.
 use mathlib.Core.Path.{_≡_}
 use mathlib.Core.List.{List, [], _∷_, _++_, map}
 use Prim.Native.Nat.{ℕ, suc}
@@ -9,8 +9,8 @@ use Rattle.linear.specs.Layer.{layer}
 use Rattle.lookup.specs.declared.Case.{Case}
 use Rattle.lookup.specs.Call.{answer, scratch-after}
 use Rattle.lookup.specs.Refusals.{logged-refusal}
-use Rattle.calls.specs.Reply.{case}
-use Rattle.secrecy.specs.Count.{case-of, mask-widths, count}
+use Rattle.calls.specs.Reply.{case-from}
+use Rattle.secrecy.specs.Count.{single, chosen-case, mask-widths, count}
 
 pub record Line : Type 0 where
   pub comes-to : List ℕ
@@ -25,7 +25,7 @@ abbrev A : List ℕ
 A = 2 ∷ 0 ∷ 3 ∷ 1 ∷ []
 
 abbrev P2 : Case
-P2 = case 2 2 2 0 1 2 3 0 2 0
+P2 = case-from 2 2 2 0 1 2 3 0 2 0
 
 -- the logged call's number, by the lengths of the lent scratch and log
 abbrev refused : Case → (table : List ℕ) → (scratch log : ℕ) → ℕ
@@ -34,7 +34,7 @@ refused c table scratch log = logged-refusal c table (replicate scratch 0) (repl
 -- every input with every choice of masks in their widths: the logged call's numbers, added up
 abbrev all-masks : (method n m : ℕ) → (table : List ℕ) → (scratch log : ℕ) → ℕ
 all-masks method n m table scratch log =
-    over (n ∷ mask-widths method n m) (λ c. refused (case-of method n m (c 0) (λ i. c (suc i))) table scratch log)
+    over (n ∷ mask-widths method n m) (λ c. refused (chosen-case single method n m (c 0) (λ i. c (suc i))) table scratch log)
 
 -- the counts of the four pairs of bits
 abbrev pairs : (table : List ℕ) → (method n m x i j : ℕ) → List ℕ
@@ -44,28 +44,29 @@ pairs table method n m x i j =
 unfoldable pub sheet : List Line
 sheet =
     -- P1: the call above answers 1
-    (refused (case 2 1 1 0 1 0 0 1 1 0) (1 ∷ 0 ∷ []) 2 22 ∷ answer (case 2 1 1 0 1 0 0 1 1 0) (1 ∷ 0 ∷ []) ∷ []) says (0 ∷ 1 ∷ [])
+    (refused (case-from 2 1 1 0 1 0 0 1 1 0) (1 ∷ 0 ∷ []) 2 22 ∷ answer (case-from 2 1 1 0 1 0 0 1 1 0) (1 ∷ 0 ∷ []) ∷ []) says (0 ∷ 1 ∷ [])
     -- P2: scratch 3, 1, 2, 0, answer 2
     ∷ scratch-after P2 A (replicate 4 0) says (3 ∷ 1 ∷ 2 ∷ 0 ∷ [])
     ∷ (refused P2 A 4 34 ∷ answer P2 A ∷ []) says (0 ∷ 2 ∷ [])
     -- P3: the same under method 3 with b = 1: scratch 0, 0, 1, 0, answer 2
-    ∷ scratch-after (case 3 2 2 0 1 2 3 0 2 1) A (replicate 4 0) says (0 ∷ 0 ∷ 1 ∷ 0 ∷ [])
-    ∷ (refused (case 3 2 2 0 1 2 3 0 2 1) A 4 46 ∷ answer (case 3 2 2 0 1 2 3 0 2 1) A ∷ []) says (0 ∷ 2 ∷ [])
+    ∷ scratch-after (case-from 3 2 2 0 1 2 3 0 2 1) A (replicate 4 0) says (0 ∷ 0 ∷ 1 ∷ 0 ∷ [])
+    ∷ (refused (case-from 3 2 2 0 1 2 3 0 2 1) A 4 46 ∷ answer (case-from 3 2 2 0 1 2 3 0 2 1) A ∷ []) says (0 ∷ 2 ∷ [])
     -- P4: x0 = 4: 10; x0 = 3 is accepted
-    ∷ (refused (case 2 2 2 4 1 2 3 0 2 0) A 4 34 ∷ refused (case 2 2 2 3 1 2 3 0 2 0) A 4 34 ∷ []) says (10 ∷ 0 ∷ [])
+    ∷ (refused (case-from 2 2 2 4 1 2 3 0 2 0) A 4 34 ∷ refused (case-from 2 2 2 3 1 2 3 0 2 0) A 4 34 ∷ []) says (10 ∷ 0 ∷ [])
     -- P5: n = 2, m = 3: 4
-    ∷ (refused (case 2 2 3 0 1 2 3 0 2 0) A 4 34 ∷ []) says (4 ∷ [])
+    ∷ (refused (case-from 2 2 3 0 1 2 3 0 2 0) A 4 34 ∷ []) says (4 ∷ [])
     -- P6: n = 2, m = 1, table 0, 0, 0, 1: 7; table 0, 1, 1, 0, with every mask in its width, is accepted
-    ∷ (refused (case 2 2 1 0 1 2 1 0 2 0) (0 ∷ 0 ∷ 0 ∷ 1 ∷ []) 4 34 ∷ refused (case 3 2 1 0 1 2 1 0 2 1) (0 ∷ 0 ∷ 0 ∷ 1 ∷ []) 4 46 ∷ []) says (7 ∷ 7 ∷ [])
+    ∷ (refused (case-from 2 2 1 0 1 2 1 0 2 0) (0 ∷ 0 ∷ 0 ∷ 1 ∷ []) 4 34 ∷ refused (case-from 3 2 1 0 1 2 1 0 2 1)
+    (0 ∷ 0 ∷ 0 ∷ 1 ∷ []) 4 46 ∷ []) says (7 ∷ 7 ∷ [])
     ∷ (all-masks 2 2 1 (0 ∷ 1 ∷ 1 ∷ 0 ∷ []) 4 34 ∷ all-masks 3 2 1 (0 ∷ 1 ∷ 1 ∷ 0 ∷ []) 4 46 ∷ []) says (0 ∷ 0 ∷ [])
     -- P7: scratch of 3 bytes: 13; with 4 accepted
     ∷ (refused P2 A 3 34 ∷ refused P2 A 4 34 ∷ []) says (13 ∷ 0 ∷ [])
     -- P8: a log of 33: 14; with 34 accepted
     ∷ (refused P2 A 4 33 ∷ refused P2 A 4 34 ∷ []) says (14 ∷ 0 ∷ [])
     -- P9: method 2 with b = 1: 12; method 3 with b = 2: 12
-    ∷ (refused (case 2 2 2 0 1 2 3 0 2 1) A 4 34 ∷ refused (case 3 2 2 0 1 2 3 0 2 2) A 4 46 ∷ []) says (12 ∷ 12 ∷ [])
+    ∷ (refused (case-from 2 2 2 0 1 2 3 0 2 1) A 4 34 ∷ refused (case-from 3 2 2 0 1 2 3 0 2 2) A 4 46 ∷ []) says (12 ∷ 12 ∷ [])
     -- P10: method 4 and n = 9 together: 2
-    ∷ (refused (case 4 9 2 0 1 2 3 0 2 0) A 4 34 ∷ []) says (2 ∷ [])
+    ∷ (refused (case-from 4 9 2 0 1 2 3 0 2 0) A 4 34 ∷ []) says (2 ∷ [])
     -- P11: n = m = 3, rows 3, 6, 5, constant 1, shares 7, 1, 3: result 1, 5, 6, which join to 2
     ∷ (layer 3 3 (3 ∷ 6 ∷ 5 ∷ []) 1 7 1 3 .refusal ∷ layer 3 3 (3 ∷ 6 ∷ 5 ∷ []) 1 7 1 3 .first ∷ layer 3 3 (3 ∷ 6 ∷ 5 ∷ []) 1 7 1 3 .second
     ∷ layer 3 3 (3 ∷ 6 ∷ 5 ∷ []) 1 7 1 3 .third ∷ join 3 1 5 6 .secret ∷ []) says (0 ∷ 1 ∷ 5 ∷ 6 ∷ 2 ∷ [])

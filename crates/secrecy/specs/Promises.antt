@@ -1,5 +1,5 @@
 -- The third demand, of the log that the documents lay out and of the logged call itself. Each statement is a type; the proofs stand in
--- proofs/Promises.antt and proofs/Lent.antt. Assumes nothing.
+-- proofs/Promises.antt and proofs/Lent.antt.
 use mathlib.Core.Path.{_≡_}
 use mathlib.Core.Logic.{_⊎_}
 use mathlib.Core.Bool.{true}
@@ -10,10 +10,10 @@ use Rattle.counting.specs.Choice.{over, Within}
 use Rattle.table.specs.Balanced.{at, balanced}
 use Rattle.table.specs.Even.{Even}
 use Rattle.table.specs.Refusals.{table-refusal}
-use Rattle.lookup.specs.Log.{log, log-length}
+use Rattle.lookup.specs.Call.{log-of, log-length, scratch-length}
 use Rattle.lookup.specs.Refusals.{logged-refusal}
 use Rattle.calls.specs.Reply.{logged-log}
-use Rattle.secrecy.specs.Count.{case-of, mask-widths, value-at, count, call-count}
+use Rattle.secrecy.specs.Count.{single, chosen-case, mask-widths, count, call-count}
 
 -- for every balanced table, each method, any two positions, the same one twice included, any two values and any two inputs:
 -- as many choices of all masks put those values there for the one input as for the other
@@ -36,20 +36,25 @@ Choices-counted =
 -- every one of them is accepted by the logged call, where the table is and where scratch and log are long enough
 unfoldable pub Choices-accepted : Type 0
 Choices-accepted =
-    (table scratch lent : List ℕ) (method n m x : ℕ) (choice : ℕ → ℕ) → table-refusal n m table ≡ 0 → (method ≡ 2) ⊎ (method ≡ 3) → x < 2 ^ n →
-    Within (mask-widths method n m) choice → 2 ^ n ≤ length scratch → log-length method n ≤ length lent →
-    logged-refusal (case-of method n m x choice) table scratch lent ≡ 0
+    (table scratch lent : List ℕ) (method n m x : ℕ) (choice : ℕ → ℕ) → table-refusal n m table ≡ 0 → (method ≡ 2) ⊎ (method ≡ 3)
+    → x < 2 ^ n →
+    Within (mask-widths method n m) choice → scratch-length method n ≤ length scratch → log-length method n ≤ length lent →
+    logged-refusal (chosen-case single method n m x choice) table scratch lent ≡ 0
 
--- for every input and choice, and whatever scratch and log are lent as the call accepts them: each value below the log's length is the counted one
+-- for every input and choice, and whatever scratch and log are lent as the call accepts them: each entry below the log's length is the
+-- counted one
 unfoldable pub Lent-log-counted : Type 0
 Lent-log-counted =
-    (table scratch lent : List ℕ) (method n m x : ℕ) (choice : ℕ → ℕ) (i : ℕ) → logged-refusal (case-of method n m x choice) table scratch lent ≡ 0 →
+    (table scratch lent : List ℕ) (method n m x : ℕ) (choice : ℕ → ℕ) (i : ℕ)
+    → logged-refusal (chosen-case single method n m x choice) table scratch lent ≡ 0 →
     i < log-length method n →
-    value-at (logged-log (case-of method n m x choice) table scratch lent) i ≡ value-at (log (case-of method n m x choice) table) i
+    at (logged-log (chosen-case single method n m x choice) table scratch lent) i ≡ at (log-of (chosen-case single method n m x choice) table) i
 
--- the third demand of the call itself: what it leaves in a lent log that is long enough shows two values at two positions equally often for any two inputs
+-- the third demand of the call itself: what it leaves in a lent log that is long enough shows two values at two positions equally often
+-- for any two inputs
 unfoldable pub Call-tells-nothing : Type 0
 Call-tells-nothing =
-    (table scratch lent : List ℕ) (method n m x y i j u v : ℕ) → table-refusal n m table ≡ 0 → (method ≡ 2) ⊎ (method ≡ 3) → x < 2 ^ n → y < 2 ^ n →
-    2 ^ n ≤ length scratch → log-length method n ≤ length lent → i < log-length method n → j < log-length method n →
+    (table scratch lent : List ℕ) (method n m x y i j u v : ℕ) → table-refusal n m table ≡ 0 → (method ≡ 2) ⊎ (method ≡ 3) → x < 2 ^ n
+    → y < 2 ^ n →
+    scratch-length method n ≤ length scratch → log-length method n ≤ length lent → i < log-length method n → j < log-length method n →
     call-count table scratch lent method n m x i j u v ≡ call-count table scratch lent method n m y i j u v

@@ -1,4 +1,4 @@
--- What is promised of splitting, joining and key addition holds. Assumes nothing.
+-- What is promised of splitting, joining and key addition holds.
 use mathlib.Core.Path.{_≡_, refl, sym, _∙_}
 use mathlib.Core.Bool.{false}
 use mathlib.Core.List.{List, [], _∷_}
@@ -6,7 +6,7 @@ use Prim.Native.Nat.{ℕ, zero, suc, _^_, _<_}
 use Rattle.bits.specs.Xor.{_⊕_}
 use Rattle.bits.proofs.Xor.{xors, below}
 use Rattle.refusals.specs.Tests.{outside, any-from}
-use Rattle.refusals.proofs.Checks.{goes, ends, passed}
+use Rattle.refusals.proofs.Checks.{goes, none-applies, passed}
 use Rattle.refusals.proofs.Tests.{all-below, one-below, none-below}
 use Rattle.shares.specs.declared.Shares.{Shares}
 use Rattle.shares.specs.Shares.{width-refusal, reply, secret-reply, split, join, add-key}
@@ -39,11 +39,12 @@ refusal-of zero a b c = refl
 refusal-of (suc k) a b c = refl
 
 -- three numbers of the width join
-pub joins : (n a b c : ℕ) → outside 1 8 n ≡ false → a < 2 ^ n → b < 2 ^ n → c < 2 ^ n → join n a b c ≡ record { refusal = 0; secret = a ⊕ b ⊕ c }
+pub joins : (n a b c : ℕ) → outside 1 8 n ≡ false → a < 2 ^ n → b < 2 ^ n → c < 2 ^ n
+    → join n a b c ≡ record { refusal = 0; secret = a ⊕ b ⊕ c }
 unfolding join secret-reply width-refusal
 joins n a b c w ha hb hc =
     let small = one-below _ a _ ha (one-below _ b _ hb (one-below _ c _ hc (none-below _))) in
-    rw (← goes 3 _ w (goes 10 _ small ends))
+    rw (← goes 3 _ w (goes 10 _ small none-applies))
 
 pub split-joins : Split-joins
 unfolding Split-joins split reply

@@ -1,11 +1,11 @@
--- The laws of replies and of their refusal, as the calls need them. Assumes nothing.
+-- The laws of replies and of their refusal, as the calls need them.
 use mathlib.Core.Path.{_≡_, refl, _∙_}
 use mathlib.Core.Bool.{true, false}
 use mathlib.Core.List.{List}
 use Prim.Native.Nat.{ℕ, zero, suc, _^_, _<_}
 use native.Mathlib.Omega.{arith}
 use Rattle.refusals.specs.Tests.{outside, any-from}
-use Rattle.refusals.proofs.Checks.{stops, goes, ends}
+use Rattle.refusals.proofs.Checks.{stops, goes, none-applies}
 use Rattle.refusals.proofs.Tests.{inside}
 use Rattle.shares.specs.declared.Shares.{Shares}
 use Rattle.shares.specs.declared.Joined.{Joined}
@@ -48,7 +48,7 @@ at-10 n xs p t = goes 3 _ p (stops 10 _ t)
 
 pub at-end : (n : ℕ) (xs : List ℕ) → outside 1 8 n ≡ false → any-from (2 ^ n) xs ≡ false → 0 ≡ width-refusal n xs
 unfolding width-refusal
-at-end n xs p t = goes 3 _ p (goes 10 _ t ends)
+at-end n xs p t = goes 3 _ p (goes 10 _ t none-applies)
 
 -- an accepted width leaves room for the shift
 pub width-small : (n : ℕ) → outside 1 8 n ≡ false → n < 32

@@ -1,4 +1,4 @@
--- What is promised of splitting, joining and key addition. Each is a type; its proof stands in proofs/Promises.antt. Assumes nothing.
+-- What is promised of splitting, joining and key addition. Each is a type; its proof stands in proofs/Promises.antt.
 use mathlib.Core.Path.{_≡_}
 use Prim.Native.Nat.{ℕ}
 use Rattle.bits.specs.Xor.{_⊕_}

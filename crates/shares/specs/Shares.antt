@@ -1,4 +1,4 @@
--- Splitting, joining and key addition, with refusals 3 and 10. Assumes nothing: these are definitions.
+-- Splitting, joining and key addition, with refusals 3 and 10.
 use mathlib.Core.List.{List, [], _∷_}
 use Prim.Native.Nat.{ℕ, zero, suc, _^_}
 use Rattle.bits.specs.Xor.{_⊕_}

@@ -1,23 +1,20 @@
--- What the logged call told, and the print that answers it; 1 where the sheet is malformed. Assumes nothing.
+-- What the logged call told, and the print that answers it; 1 where the sheet is malformed.
 use mathlib.Core.Path.{_≡_, refl, sym, ap, _∙_}
 use mathlib.Core.Bool.{Bool, true, false, cond}
-use mathlib.Core.Logic.{⊎-elim}
 use mathlib.Core.List.{List, [], _∷_}
 use Prim.Native.Nat.{ℕ, zero, suc, _+_, _*_, _^_, _≤_}
 use native.Mathlib.Omega.{arith}
 use borrow.Author.Tests.{eq-eqb, ne-eqb}
 use lib.ListN.{length, take, length-take}
 use lib.Seq.{take-at}
-use Rattle.log.specs.Written.{in-front}
+use Rattle.buffers.specs.Written.{in-front}
 use Rattle.lookup.specs.declared.Case.{Case}
 use Rattle.lookup.specs.declared.Called.{Called}
-use Rattle.lookup.specs.Call.{answer}
-use Rattle.lookup.specs.Log.{log, log-length}
+use Rattle.lookup.specs.Call.{answer, log-of, log-length, scratch-length}
 use Rattle.lookup.specs.Refusals.{case-refusal, logged-refusal}
 use Rattle.lookup.specs.Promises.{Log-long}
 use Rattle.lookup.proofs.Accepted.{accepted, accepted-bounded}
-use Rattle.lookup.proofs.ByMethod.{by-2, by-3}
-use Rattle.lookup.proofs.Promises.{log-long}
+use Rattle.lookup.proofs.Promises.{taken-right, log-long}
 use Rattle.calls.specs.Reply.{called, left, logged-reply, logged-log}
 use Rattle.call_checks.proofs.Checking.{at-case, at-room, at-plain, at-end}
 use Rattle.log_print.specs.Lines.{line-of, answer-lines}
@@ -29,25 +26,31 @@ called-number zero share count = refl
 called-number (suc k) share count = refl
 
 module _ (c : Case) (table : List ℕ) where
-  -- the longest log
-  log-most : case-refusal c table ≡ 0 → log-length (c .method) (c .n) ≤ 2314
-  unfolding log-length
-  log-most e =
-      let k = accepted c table e in
-      let size = accepted-bounded c table k .size in
-      ⊎-elim (λ h. omega (arith, by-2 (10 + 6 * 2 ^ c .n) (10 + 9 * 2 ^ c .n) 0 (h .0), size)) (λ h. omega (arith, by-3 (10 + 6 * 2 ^ c .n) (10 + 9 * 2 ^ c .n) 0 (h .0), size))
-      (k .chosen)
+  -- the longest log and scratch
+  module _ (e : case-refusal c table ≡ 0) where
+    size : 2 ^ c .n ≤ 256
+    size = accepted-bounded _ c table (taken-right c table (accepted c table e) .bit) (accepted c table e .1) .size
 
-  module _ (scratch lent : List ℕ) (x : Called) (told : x ≡ logged-reply c table scratch lent) (room : length scratch ≡ 256) (log-room : length lent ≡ 2400) where
+    log-most : log-length (c .method) (c .n) ≤ 2314
+    unfolding log-length
+    log-most = omega (arith, taken-right c table (accepted c table e) .short (2 ^ c .n), size)
+
+    scratch-most : scratch-length (c .method) (c .n) ≤ 256
+    unfolding scratch-length
+    scratch-most = omega (arith, taken-right c table (accepted c table e) .lean (2 ^ c .n), size)
+
+  module _ (scratch lent : List ℕ) (x : Called) (told : x ≡ logged-reply c table scratch lent)
+      (room : length scratch ≡ 256) (log-room : length lent ≡ 2400) where
     -- scratch and log are long enough, so only the case is refused
     same-refusal : logged-refusal c table scratch lent ≡ case-refusal c table
-    same-refusal = go (case-refusal c table) refl
+    same-refusal = same-refusal-by-cases (case-refusal c table) refl
       where
-        go : (k : ℕ) → k ≡ case-refusal c table → logged-refusal c table scratch lent ≡ case-refusal c table
-        go zero e =
-            let size = accepted-bounded c table (accepted c table (sym e)) .size in
-            sym (at-end c table scratch lent 0 _ (at-room c table scratch 0 (2 ^ c .n) e refl refl (omega arith)) refl refl (omega (arith, log-most (sym e)))) ∙ e
-        go (suc k) e = sym (at-plain c table scratch lent (suc k) (at-case c table scratch (suc k) e (λ z. omega arith)) (λ z. omega arith)) ∙ e
+        same-refusal-by-cases : (k : ℕ) → k ≡ case-refusal c table → logged-refusal c table scratch lent ≡ case-refusal c table
+        same-refusal-by-cases zero e =
+            let plain = at-room c table scratch 0 _ e refl refl (omega (arith, scratch-most (sym e))) in
+            sym (at-end c table scratch lent 0 _ plain refl refl (omega (arith, log-most (sym e)))) ∙ e
+        same-refusal-by-cases (suc k) e =
+            sym (at-plain c table scratch lent (suc k) (at-case c table scratch (suc k) e (λ z. omega arith)) (λ z. omega arith)) ∙ e
 
     number : x .refusal ≡ case-refusal c table
     unfolding logged-reply
@@ -57,13 +60,14 @@ module _ (c : Case) (table : List ℕ) where
       -- refused
       refused : (refusal ≡ 0 → ⊥) → line-of (refusal ∷ []) ≡ cond malformed (line-of (1 ∷ [])) (reply c table)
       unfolding reply
-      refused h = go malformed first
+      refused h = refused-by-cases malformed first
         where
-          go : (t : Bool) → refusal ≡ cond t 1 (x .refusal) → line-of (refusal ∷ []) ≡ cond t (line-of (1 ∷ [])) (reply c table)
-          go true e = rw e
-          go false e = rw (e, number, ne-eqb (case-refusal c table) 0 (λ z. h (e ∙ number ∙ z)))
+          refused-by-cases : (t : Bool) → refusal ≡ cond t 1 (x .refusal) → line-of (refusal ∷ []) ≡ cond t (line-of (1 ∷ [])) (reply c table)
+          refused-by-cases true e = rw e
+          refused-by-cases false e = rw (e, number, ne-eqb (case-refusal c table) 0 (λ z. h (e ∙ number ∙ z)))
 
-      pub refused-long : {k : ℕ} → (refusal ≡ 0 → ⊥) → k ≡ length (line-of (refusal ∷ [])) → k ≡ length (cond malformed (line-of (1 ∷ [])) (reply c table))
+      pub refused-long : {k : ℕ} → (refusal ≡ 0 → ⊥) → k ≡ length (line-of (refusal ∷ []))
+          → k ≡ length (cond malformed (line-of (1 ∷ [])) (reply c table))
       refused-long h e = e ∙ ap length (refused h)
 
       pub refused-left : (before now : List ℕ) → (refusal ≡ 0 → ⊥) → now ≡ in-front (line-of (refusal ∷ [])) before
@@ -73,11 +77,11 @@ module _ (c : Case) (table : List ℕ) where
       -- accepted
       module _ (z : refusal ≡ 0) where
         well-formed : malformed ≡ false
-        well-formed = go malformed first
+        well-formed = well-formed-by-cases malformed first
           where
-            go : (t : Bool) → refusal ≡ cond t 1 (x .refusal) → t ≡ false
-            go true e = absurd (omega (arith, sym e ∙ z))
-            go false e = refl
+            well-formed-by-cases : (t : Bool) → refusal ≡ cond t 1 (x .refusal) → t ≡ false
+            well-formed-by-cases true e = absurd (omega (arith, sym e ∙ z))
+            well-formed-by-cases false e = refl
 
         whole : case-refusal c table ≡ 0
         whole = sym number ∙ sym (first ∙ rw well-formed) ∙ z
@@ -93,7 +97,7 @@ module _ (c : Case) (table : List ℕ) where
         unfolding logged-reply called
         count = ap (λ y. y .count) told ∙ rw none
 
-        long : length (log c table) ≡ x .count
+        long : length (log-of c table) ≡ x .count
         unfolding Log-long
         long = log-long table c whole .0 ∙ sym count
 
@@ -102,9 +106,9 @@ module _ (c : Case) (table : List ℕ) where
 
         module _ (now : List ℕ) (left-is : now ≡ logged-log c table scratch lent) where
           -- the entries in front are the log
-          entries : take (x .count) now ≡ log c table
+          entries : take (x .count) now ≡ log-of c table
           unfolding logged-log left in-front
-          entries = rw (left-is, none) (take-at (log c table) _ (x .count) long)
+          entries = rw (left-is, none) (take-at (log-of c table) _ (x .count) long)
 
           pub entries-lent : x .count ≡ length (take (x .count) now)
           entries-lent = sym (ap length entries ∙ long)
@@ -122,7 +126,8 @@ module _ (c : Case) (table : List ℕ) where
           unfolding reply
           answered = rw (entries, share, count, well-formed, eq-eqb (case-refusal c table) 0 whole)
 
-          pub answered-long : {k : ℕ} → k ≡ length (answer-lines (take (x .count) now) (x .share) (x .count)) → k ≡ length (cond malformed (line-of (1 ∷ [])) (reply c table))
+          pub answered-long : {k : ℕ} → k ≡ length (answer-lines (take (x .count) now) (x .share) (x .count))
+              → k ≡ length (cond malformed (line-of (1 ∷ [])) (reply c table))
           answered-long e = e ∙ ap length answered
 
           pub answered-left : (before after : List ℕ) → after ≡ in-front (answer-lines (take (x .count) now) (x .share) (x .count)) before

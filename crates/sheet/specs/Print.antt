@@ -1,20 +1,20 @@
--- The print that answers a sheet. Assumes nothing: these are definitions.
+-- The print that answers a sheet.
 use mathlib.Core.Bool.{cond}
 use mathlib.Core.List.{List, [], _∷_}
 use Prim.Native.Nat.{ℕ}
 use lib.Dec.{eqb}
 use Rattle.lookup.specs.declared.Case.{Case}
-use Rattle.lookup.specs.Call.{answer}
-use Rattle.lookup.specs.Log.{log, log-length}
+use Rattle.lookup.specs.Call.{answer, log-of, log-length}
 use Rattle.lookup.specs.Refusals.{case-refusal}
-use Rattle.case_sheet.specs.Sheet.{numbers-of, table-of, well-formed, case-of}
+use Rattle.case_sheet.specs.Sheet.{numbers-of, table-of, well-formed, case-read}
 use Rattle.log_print.specs.Lines.{line-of, answer-lines}
 
 -- a refused case: its number alone
 unfoldable pub reply : Case → (table : List ℕ) → List ℕ
 reply c table =
-    cond (eqb (case-refusal c table) 0) (answer-lines (log c table) (answer c table) (log-length (c .method) (c .n))) (line-of (case-refusal c table ∷ []))
+    cond (eqb (case-refusal c table) 0) (answer-lines (log-of c table) (answer c table) (log-length (c .method) (c .n)))
+    (line-of (case-refusal c table ∷ []))
 
 -- the whole output: 1 where the input is of another form
 unfoldable pub print : (input : List ℕ) → List ℕ
-print input = cond (well-formed input) (reply (case-of (numbers-of input)) (table-of input)) (line-of (1 ∷ []))
+print input = cond (well-formed input) (reply (case-read (numbers-of input)) (table-of input)) (line-of (1 ∷ []))

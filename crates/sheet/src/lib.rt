@@ -3,7 +3,7 @@ ghost use mathlib.Core.Path.{_≡_};
 ghost use mathlib.Core.Bool.{cond};
 ghost use mathlib.Core.List.{[], _∷_};
 ghost use lib.ListN.{length};
-ghost use Rattle.log.specs.Written.{in-front};
+ghost use Rattle.buffers.specs.Written.{in-front};
 ghost use Rattle.log_print.specs.Lines.{line-of};
 ghost use Rattle.sheet.specs.Print.{print as Print·print, reply as Print·reply};
 use lookup::Case;
@@ -22,7 +22,8 @@ pub fn print(input: &[u8], output: &mut [u8; 32768]) -> usize
 // The answer to a case, or 1 to a malformed sheet. Scratch, log and output are long enough for any case.
 fn reply(malformed: bool, case: Case, table: &[u8], output: &mut [u8; 32768]) -> usize
     ensures { λ r. ⌜ r ≡ length (cond malformed (line-of (1 ∷ [])) (Print·reply case (now (table .entry)))) ⌝ }
-    ensures { λ _. ⌜ now (output .exit) ≡ in-front (cond malformed (line-of (1 ∷ [])) (Print·reply case (now (table .entry)))) (now (output .entry)) ⌝ }
+    ensures { λ _. ⌜ now (output .exit) ≡ in-front (cond malformed (line-of (1 ∷ [])) (Print·reply case (now (table .entry))))
+        (now (output .entry)) ⌝ }
 {
     let mut scratch = [0u8; 256];
     let mut log = [0u16; 2400];

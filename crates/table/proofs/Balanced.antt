@@ -1,5 +1,4 @@
 -- The test of balance says what its definition says in words: each part holds of a balanced table, and all parts together make it balanced.
--- Assumes nothing.
 use mathlib.Core.Path.{_≡_, refl}
 use mathlib.Core.Bool.{Bool, true, false, and-eq-true-iff}
 use mathlib.Core.List.{List, [], _∷_}

@@ -1,5 +1,4 @@
 -- A sum over a table's places is a sum over the values, each as often as it stands in the table. So a balanced table is even.
--- Assumes nothing.
 use mathlib.Core.Path.{_≡_, sym, ap, _∙_}
 use mathlib.Core.Bool.{true, false}
 use mathlib.Core.List.{List, [], _∷_}

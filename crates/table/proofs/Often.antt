@@ -1,4 +1,4 @@
--- Where no value stands in a table too often, each stands in it equally often: the counts have one sum. Assumes nothing.
+-- Where no value stands in a table too often, each stands in it equally often: the counts have one sum.
 use mathlib.Core.Path.{_≡_, refl, sym, ap, _∙_}
 use mathlib.Core.Bool.{false, cond}
 use mathlib.Core.List.{List, [], _∷_}

@@ -1,4 +1,4 @@
--- The table's checks, as code goes through them, and what an accepted table is known to be. Assumes nothing.
+-- The table's checks, as code goes through them, and what an accepted table is known to be.
 use mathlib.Core.Path.{_≡_, refl, sym}
 use mathlib.Core.Bool.{true, false, not}
 use mathlib.Core.List.{List, [], _∷_}
@@ -8,7 +8,7 @@ use lib.ListN.{length}
 use lib.Pow.{pow-pos}
 use Rattle.refusals.specs.Checks.{_when_, first-of}
 use Rattle.refusals.specs.Tests.{outside, any-from}
-use Rattle.refusals.proofs.Checks.{stops, goes, ends, passed, numbered}
+use Rattle.refusals.proofs.Checks.{stops, goes, none-applies, passed, numbered}
 use Rattle.refusals.proofs.Tests.{inside, not-outside}
 use Rattle.table.specs.Balanced.{at, balanced}
 use Rattle.table.specs.Refusals.{table-checks, table-refusal}
@@ -52,7 +52,7 @@ module _ (n m : ℕ) (xs : List ℕ) where
 
   pub at-end : outside 1 8 n ≡ false → outside 1 n m ≡ false → length xs ≡ 2 ^ n → any-from (2 ^ m) xs ≡ false → balanced n m xs ≡ true
       → 0 ≡ table-refusal n m xs
-  at-end p q e f t = after-5 p q e (goes 6 _ f (goes 7 _ (rw t) ends))
+  at-end p q e f t = after-5 p q e (goes 6 _ f (goes 7 _ (rw t) none-applies))
 
   -- so other checks may follow these (`passed-both`)
   pub table-numbered : numbered (table-checks n m xs) ≡ true
@@ -82,5 +82,6 @@ module _ (n m : ℕ) (xs : List ℕ) where
   pub table-not-refused : Table n m xs → table-refusal n m xs ≡ 0
   table-not-refused t =
       sym
-      (at-end (not-outside (t .input-least) (t .input-most)) (not-outside (t .output-least) (t .output-most)) (t .long) (none-from (2 ^ m) xs (t .small))
+      (at-end (not-outside (t .input-least) (t .input-most)) (not-outside (t .output-least) (t .output-most)) (t .long)
+      (none-from (2 ^ m) xs (t .small))
       (t .balance))

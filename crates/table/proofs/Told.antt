@@ -1,4 +1,4 @@
--- What the calls and comparisons of `table_refusal` tell of its widths and of its table. Assumes nothing.
+-- What the calls and comparisons of `table_refusal` tell of its widths and of its table.
 use mathlib.Core.Path.{_≡_, refl, sym, _∙_}
 use mathlib.Core.Bool.{Bool, true, false}
 use mathlib.Core.List.{List}
@@ -13,7 +13,7 @@ use lib.Pow.{pow-mono, pow-pos}
 use Rattle.refusals.specs.Tests.{outside, any-from}
 use Rattle.refusals.proofs.Tests.{inside}
 use Rattle.table.specs.Balanced.{at, balanced}
-use Rattle.table.specs.Counts.{Tally, Joined}
+use Rattle.table.specs.Counts.{Tally, Joined-counts}
 use Rattle.table.proofs.Balanced.{at-below, balanced-made, balanced-count}
 use Rattle.table.proofs.Often.{each-equal, count-past}
 
@@ -55,7 +55,7 @@ module _ {xs counts : List ℕ} {joined : ℕ} (t : Tally xs counts joined) wher
   none-large limit m e h = t .large m ∙ lt-leb _ _ (rw e at h)
 
   -- the joined counts against the number that each should be
-  module _ {often : ℕ} (j : Joined counts often) (n m times : ℕ) (each : times ≡ 2 ^ (n - m)) (narrow : m ≤ 8) (long : length xs ≡ 2 ^ n)
+  module _ {often : ℕ} (j : Joined-counts counts often) (n m times : ℕ) (each : times ≡ 2 ^ (n - m)) (narrow : m ≤ 8) (long : length xs ≡ 2 ^ n)
       (none : any-from (2 ^ m) xs ≡ false) where
     pub balance : m ≤ n → often ≡ times → balanced n m xs ≡ true
     balance h e =
@@ -65,11 +65,11 @@ module _ {xs counts : List ℕ} {joined : ℕ} (t : Tally xs counts joined) wher
 
     -- a balanced table's counts are 0 or this number, so they are joined to it
     counts-two : balanced n m xs ≡ true → (v : ℕ) → v < 256 → (at counts v ≡ 0) ⊎ (at counts v ≡ times)
-    counts-two b v l = go (leb (2 ^ m) v) refl
+    counts-two b v l = counts-two-by-cases (leb (2 ^ m) v) refl
       where
-        go : (s : Bool) → leb (2 ^ m) v ≡ s → (at counts v ≡ 0) ⊎ (at counts v ≡ times)
-        go true e = inl (t .counted v l ∙ count-past (2 ^ m) xs none v (leb-true _ _ e))
-        go false e = inr (t .counted v l ∙ balanced-count n m xs b v (leb-false _ _ e) ∙ sym each)
+        counts-two-by-cases : (s : Bool) → leb (2 ^ m) v ≡ s → (at counts v ≡ 0) ⊎ (at counts v ≡ times)
+        counts-two-by-cases true e = inl (t .counted v l ∙ count-past (2 ^ m) xs none v (leb-true _ _ e))
+        counts-two-by-cases false e = inr (t .counted v l ∙ balanced-count n m xs b v (leb-false _ _ e) ∙ sym each)
 
     joined-two : balanced n m xs ≡ true → (often ≡ 0) ⊎ (often ≡ times) → often ≡ times
     joined-two b (inr e) = e
@@ -77,8 +77,8 @@ module _ {xs counts : List ℕ} {joined : ℕ} (t : Tally xs counts joined) wher
         omega (arith, j .above 0 (omega arith), t .counted 0 (omega arith), balanced-count n m xs b 0 (pow-pos m), pow-pos (n - m))
 
     pub no-balance : (often ≡ times → ⊥) → balanced n m xs ≡ false
-    no-balance h = go (balanced n m xs) refl
+    no-balance h = no-balance-by-cases (balanced n m xs) refl
       where
-        go : (b : Bool) → balanced n m xs ≡ b → b ≡ false
-        go false e = refl
-        go true e = absurd (h (joined-two e (j .only times (counts-two e))))
+        no-balance-by-cases : (b : Bool) → balanced n m xs ≡ b → b ≡ false
+        no-balance-by-cases false e = refl
+        no-balance-by-cases true e = absurd (h (joined-two e (j .only times (counts-two e))))

@@ -1,4 +1,4 @@
--- A table is the list of its entries; here is when it is balanced. Assumes nothing: these are definitions.
+-- A table is the list of its entries; here is when it is balanced.
 use mathlib.Core.Bool.{Bool, true, _&&_, not, cond}
 use mathlib.Core.List.{List, [], _∷_}
 use Prim.Native.Nat.{ℕ, zero, suc, _+_, _-_, _^_}

@@ -1,4 +1,4 @@
--- The checks of a table and its widths, which several calls make in this order among their own. Assumes nothing: these are definitions.
+-- The checks of a table and its widths, which several calls make in this order among their own.
 use mathlib.Core.Bool.{not}
 use mathlib.Core.List.{List, [], _∷_}
 use Prim.Native.Nat.{ℕ, _^_}

@@ -1,9 +1,10 @@
-// Balanced tables: which tables are refused, by one pass that counts how often each value stands in the table. What balance gives stands in specs/ and proofs/.
+// Balanced tables: which tables are refused, by one pass that counts how often each value stands in the table. What balance gives
+// stands in specs/ and proofs/.
 ghost use mathlib.Core.Path.{_≡_};
 ghost use Prim.Native.Nat.{_≤_};
 ghost use lib.ListN.{length, replicate};
 ghost use Rattle.table.specs.Refusals.{table-refusal};
-ghost use Rattle.table.specs.Counts.{Tally, Joined};
+ghost use Rattle.table.specs.Counts.{Tally, Joined-counts};
 
 // The number of the first check that refuses the table or its widths, or 0.
 pub fn table_refusal(input_width: u32, output_width: u32, table: &[u8]) -> u32
@@ -52,7 +53,7 @@ fn tally(table: &[u8], counts: &mut [u16; 256]) -> u8
 // All counts joined by bitwise or. In a balanced table each count is 0 or one power of two, so this is that power; in any other
 // table some count is too large and shows here. All 256 are joined at every width, so that every width runs the same code.
 fn joined_counts(counts: &[u16; 256]) -> u16
-    ensures { λ r. ⌜ Joined (now (counts .entry)) r ⌝ }
+    ensures { λ r. ⌜ Joined-counts (now (counts .entry)) r ⌝ }
 {
     let mut joined = 0;
     let mut value = 0;

@@ -1,4 +1,4 @@
--- `bench::write_front` is safe and ends: a part of the slice is as long as it says. Assumes nothing.
+-- `bench::write_front` is safe and ends: a part of the slice is as long as it says.
 use mathlib.Core.Path.{_≡_, sym}
 use mathlib.Core.List.{List}
 use Prim.Native.Nat.{ℕ, _≤_}

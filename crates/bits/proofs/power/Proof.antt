@@ -1,4 +1,4 @@
--- `bits::power` meets its contract: 1 shifted by less than 32 places loses no bit. Assumes nothing.
+-- `bits::power` meets its contract: 1 shifted by less than 32 places loses no bit.
 use borrow.Author.Needs.{needs}
 use mathlib.Core.Path.{_∙_}
 use Prim.Native.Nat.{_^_}

@@ -1,4 +1,4 @@
--- `call_checks::refused_logged` meets its contract. Assumes nothing.
+-- `call_checks::refused_logged` meets its contract.
 use borrow.Author.Needs.{needs}
 use Rattle.call_checks.proofs.Checking.{at-plain, at-14, at-end, width-most}
 use Rattle.call_checks.proofs.refused_logged.Statement.{statement}

@@ -1,6 +1,7 @@
--- `calls::plain` meets its contract. Assumes nothing.
+-- `calls::plain` meets its contract.
 use borrow.Author.Needs.{needs}
-use Rattle.calls.proofs.Replies.{plain-refused, plain-kept, plain-answered, plain-left, plain-method, plain-bounded, plain-table, plain-room}
+use Rattle.calls.proofs.Replies.{plain-refused, plain-kept, plain-answered, plain-left}
+use Rattle.calls.proofs.Replies.{plain-method, plain-bounded, plain-table, plain-room}
 use Rattle.calls.proofs.plain.Statement.{statement}
 use Rattle.calls.proofs.plain.Tie as tie
 

@@ -1,4 +1,4 @@
--- `case_sheet::accepted` meets its contract. Assumes nothing.
+-- `case_sheet::accepted` meets its contract.
 use borrow.Author.Needs.{needs}
 use Rattle.case_sheet.proofs.Sheets.{ten-taken}
 use Rattle.case_sheet.proofs.accepted.Statement.{statement}
@@ -7,4 +7,6 @@ use Rattle.case_sheet.proofs.accepted.Tie as tie
 pub accepted-spec : {M : Type 1} → statement M
 accepted-spec =
     tie.close
-    (tie.spec (λ c κs. search needs) (λ c κs. search needs) (λ c κs. search needs) (λ c κs. search needs) (λ c κs. search needs) (λ c κs. search needs) (λ c κs. search needs) (λ c κs. search needs) (λ c κs. search needs) (λ c κs. search needs) (λ c. search ten-taken))
+    (tie.spec (λ c κs. search needs) (λ c κs. search needs) (λ c κs. search needs) (λ c κs. search needs) (λ c κs. search needs)
+    (λ c κs. search needs) (λ c κs. search needs) (λ c κs. search needs) (λ c κs. search needs) (λ c κs. search needs)
+    (λ c. search ten-taken))

@@ -1,4 +1,4 @@
--- `case_sheet::complete` meets its contract. Assumes nothing.
+-- `case_sheet::complete` meets its contract.
 use borrow.Author.Needs.{needs}
 use borrow.Author.Tests.{eq-eqb, ne-eqb}
 use Rattle.case_sheet.specs.Sheet.{complete}

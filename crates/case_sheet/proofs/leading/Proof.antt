@@ -1,8 +1,9 @@
--- `case_sheet::leading` meets its contract. The invariant is `Found`. Assumes nothing.
+-- `case_sheet::leading` meets its contract. The invariant is `Found`.
 use borrow.Author.Needs.{needs}
 use Prim.Native.Nat.{_-_}
 use lib.ListN.{length}
-use Rattle.case_sheet.proofs.Found.{Found, begins, turns, stops-counted, stops-left, ends-counted, ends-left, number-fits, next-fits}
+use Rattle.case_sheet.proofs.Found.{Found, found-begins, found-turns, stops-counted}
+use Rattle.case_sheet.proofs.Found.{stops-left, found-counted, found-left, number-fits, next-fits}
 use Rattle.case_sheet.proofs.leading.Statement.{statement}
 use Rattle.case_sheet.proofs.leading.Tie as tie
 
@@ -15,6 +16,8 @@ abbrev μ : tie.MeasureT-loop
 pub leading-spec : {M : Type 1} → statement M
 leading-spec =
     tie.close
-    (tie.spec Inv μ (λ c κs. search needs) (λ c. search begins) (λ c. search needs) (λ c. search needs) (λ c. search needs) (λ c κs. search needs)
-    (λ c. search needs) (λ c. search needs) (λ c. search needs) (λ c. (search stops-counted, search stops-left)) (λ c. search number-fits) (λ c. search needs) (λ c. search next-fits) (λ c. search needs)
-    (λ c. search needs) (λ c. search turns) (λ c. search needs) (λ c. (search ends-counted, search ends-left)))
+    (tie.spec Inv μ (λ c κs. search needs) (λ c. search found-begins) (λ c. search needs) (λ c. search needs) (λ c. search needs)
+    (λ c κs. search needs)
+    (λ c. search needs) (λ c. search needs) (λ c. search needs) (λ c. (search stops-counted, search stops-left))
+    (λ c. search number-fits) (λ c. search needs) (λ c. search next-fits) (λ c. search needs)
+    (λ c. search needs) (λ c. search found-turns) (λ c. search needs) (λ c. (search found-counted, search found-left)))

@@ -1,11 +1,11 @@
--- `case_sheet::refused` meets its contract. Assumes nothing.
+-- `case_sheet::refused` meets its contract.
 use mathlib.Core.Path.{refl}
-use Rattle.case_sheet.specs.Sheet.{case-of, refused}
+use Rattle.case_sheet.specs.Sheet.{case-read, refused}
 use Rattle.case_sheet.proofs.refused.Statement.{statement}
 use Rattle.case_sheet.proofs.refused.Tie as tie
 
 returns : tie.Need-returns
-unfolding refused case-of
+unfolding refused case-read
 returns c = refl
 
 pub refused-spec : {M : Type 1} → statement M

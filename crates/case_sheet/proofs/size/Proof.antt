@@ -1,4 +1,4 @@
--- `case_sheet::size` meets its contract. Assumes nothing.
+-- `case_sheet::size` meets its contract.
 use Rattle.case_sheet.specs.Sheet.{size}
 use Rattle.case_sheet.proofs.size.Statement.{statement}
 use Rattle.case_sheet.proofs.size.Tie as tie

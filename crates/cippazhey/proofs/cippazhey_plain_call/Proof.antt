@@ -1,4 +1,4 @@
--- `cippazhey::cippazhey_plain_call` meets its contract. Assumes nothing.
+-- `cippazhey::cippazhey_plain_call` meets its contract.
 use borrow.Author.Needs.{needs}
 use Rattle.cippazhey.proofs.Exported.{product-fits, sum-fits, result-fits, result-is}
 use Rattle.cippazhey.proofs.cippazhey_plain_call.Statement.{statement}

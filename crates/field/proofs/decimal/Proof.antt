@@ -1,4 +1,4 @@
--- `field::decimal` meets its contract. The invariant is `Reading`. Assumes nothing.
+-- `field::decimal` meets its contract. The invariant is `Reading`.
 use borrow.Author.Needs.{needs}
 use Prim.Native.Nat.{_-_}
 use native.Mathlib.Omega.{arith}
@@ -22,5 +22,7 @@ cast-value c = omega (arith, c .before .before .shared-slice-known2 .given (c .b
 pub decimal-spec : {M : Type 1} → statement M
 decimal-spec =
     tie.close
-    (tie.spec Inv μ (λ c. search none-read) (λ c. search needs) (λ c κs. search needs) (λ c. search no-digit) (λ c. search needs) (λ c. search from-zero)
-    cast-value add-value (λ c. search too-large) (λ c. search needs) (λ c. search needs) (λ c. search one-read) (λ c. search needs) (λ c. search all-read))
+    (tie.spec Inv μ (λ c. search none-read) (λ c. search needs) (λ c κs. search needs) (λ c. search no-digit) (λ c. search needs)
+    (λ c. search from-zero)
+    cast-value add-value (λ c. search too-large) (λ c. search needs) (λ c. search needs) (λ c. search one-read) (λ c. search needs)
+    (λ c. search all-read))

@@ -1,4 +1,4 @@
--- `field::digit` meets its contract. Assumes nothing.
+-- `field::digit` meets its contract.
 use borrow.Author.Tests.{le-leb, lt-leb}
 use Rattle.field.specs.Field.{digit}
 use Rattle.field.proofs.digit.Statement.{statement}

@@ -1,4 +1,4 @@
--- `field::mark` meets its contract. Assumes nothing.
+-- `field::mark` meets its contract.
 use borrow.Author.Needs.{needs}
 use borrow.Author.Tests.{eq-eqb, ne-eqb}
 use Rattle.field.specs.Printed.{mark}

@@ -1,4 +1,4 @@
--- `field::number` meets its contract. Assumes nothing.
+-- `field::number` meets its contract.
 use borrow.Author.Needs.{needs}
 use Rattle.field.proofs.Reading.{no-digits, one-digit, leading-zero, more-digits}
 use Rattle.field.proofs.number.Statement.{statement}

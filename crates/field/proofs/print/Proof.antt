@@ -1,6 +1,6 @@
--- `field::print` meets its contract. Assumes nothing.
+-- `field::print` meets its contract.
 use borrow.Author.Needs.{needs}
-use Rattle.field.proofs.Printing.{front-room, same-size, whole}
+use Rattle.field.proofs.Printing.{front-room, same-size, printing-whole}
 use Rattle.field.proofs.print.Statement.{statement}
 use Rattle.field.proofs.print.Tie as tie
 
@@ -8,4 +8,4 @@ pub print-spec : {M : Type 1} → statement M
 print-spec =
     tie.close
     (tie.spec (λ c. search needs) (λ c. search needs) (λ c. search needs) (λ c. search needs) (λ c. search needs) (λ c. search needs)
-    (λ c κs. search front-room) (λ c. search same-size) (λ c. search whole))
+    (λ c κs. search front-room) (λ c. search same-size) (λ c. search printing-whole))

@@ -1,6 +1,6 @@
--- `field::print_front` meets its contract. The invariant is `Printing`. Assumes nothing.
+-- `field::print_front` meets its contract. The invariant is `Printing`.
 use borrow.Author.Needs.{needs}
-use Rattle.field.proofs.Printing.{Printing, begins, turns, ends}
+use Rattle.field.proofs.Printing.{Printing, printing-begins, printing-turns, printing-ends}
 use Rattle.field.proofs.print_front.Statement.{statement}
 use Rattle.field.proofs.print_front.Tie as tie
 
@@ -13,5 +13,6 @@ abbrev μ : tie.MeasureT-loop
 pub print-front-spec : {M : Type 1} → statement M
 print-front-spec =
     tie.close
-    (tie.spec Inv μ (λ c. search begins) (λ c. search needs) (λ c κs. search needs) (λ c. search needs) (λ c. search needs) (λ c. search needs)
-    (λ c. search turns) (λ c. search needs) (λ c. search ends))
+    (tie.spec Inv μ (λ c. search printing-begins) (λ c. search needs) (λ c κs. search needs) (λ c. search needs) (λ c. search needs)
+    (λ c. search needs)
+    (λ c. search printing-turns) (λ c. search needs) (λ c. search printing-ends))

@@ -1,4 +1,4 @@
--- `field::spaces` meets its contract. The invariant is `Passing`. Assumes nothing.
+-- `field::spaces` meets its contract. The invariant is `Passing`.
 use borrow.Author.Needs.{needs}
 use Prim.Native.Nat.{_-_}
 use lib.ListN.{length}

@@ -1,4 +1,4 @@
--- `linear::linear_layer` meets its contract. Assumes nothing.
+-- `linear::linear_layer` meets its contract.
 use mathlib.Core.Path.{_≡_, _∙_}
 use mathlib.Core.List.{List}
 use Prim.Native.Nat.{ℕ}
@@ -26,5 +26,6 @@ done r j n m rows k a b c f g h e o p q s = e ∙ rw (o, p, q, s)
 pub linear-layer-spec : {M : Type 1} → statement M
 linear-layer-spec =
     tie.close
-    (tie.spec (λ c κs. search needs) (λ c κs. search needs) returns (λ c κs. search few-rows) (λ c κs. search few-rows) (λ c κs. search few-rows)
+    (tie.spec (λ c κs. search needs) (λ c κs. search needs) returns (λ c κs. search few-rows) (λ c κs. search few-rows)
+    (λ c κs. search few-rows)
     (λ c κs. search needs) (λ c. search done))

@@ -1,4 +1,4 @@
--- `log_print::put_line` meets its contract. Assumes nothing.
+-- `log_print::put_line` meets its contract.
 use borrow.Author.Needs.{needs}
 use Rattle.log_print.proofs.Lines.{three, three-same}
 use Rattle.log_print.proofs.put_line.Statement.{statement}
@@ -21,5 +21,6 @@ returns c =
 pub put-line-spec : {M : Type 1} → statement M
 put-line-spec =
     tie.close
-    (tie.spec (λ c κs. search needs) (λ c. search needs) (λ c κs. search needs) (λ c. search needs) (λ c κs. search needs) (λ c. search needs)
+    (tie.spec (λ c κs. search needs) (λ c. search needs) (λ c κs. search needs) (λ c. search needs) (λ c κs. search needs)
+    (λ c. search needs)
     (λ c. search needs) same-length returns)

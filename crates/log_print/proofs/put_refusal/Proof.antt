@@ -1,4 +1,4 @@
--- `log_print::put_refusal` meets its contract. Assumes nothing.
+-- `log_print::put_refusal` meets its contract.
 use borrow.Author.Needs.{needs}
 use Rattle.log_print.proofs.Lines.{one, one-long}
 use Rattle.log_print.proofs.put_refusal.Statement.{statement}

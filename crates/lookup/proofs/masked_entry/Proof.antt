@@ -1,8 +1,8 @@
--- `lookup::masked_entry` meets its contract. Assumes nothing.
+-- `lookup::masked_entry` meets its contract.
 use borrow.Author.Needs.{needs}
 use Rattle.bits.specs.Xor.{_⊕_}
 use Rattle.table.specs.Balanced.{at}
-use Rattle.lookup.specs.Method2.{masked}
+use Rattle.lookup.specs.Row.{masked}
 use Rattle.lookup.proofs.Runs.{in-table}
 use Rattle.lookup.proofs.masked_entry.Statement.{statement}
 use Rattle.lookup.proofs.masked_entry.Tie as tie

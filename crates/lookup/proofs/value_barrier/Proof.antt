@@ -1,4 +1,4 @@
--- `lookup::value_barrier` meets its contract: both cells hold the value. Assumes nothing.
+-- `lookup::value_barrier` meets its contract: both cells hold the value.
 use mathlib.Core.Path.{_≡_, refl}
 use mathlib.Core.List.{[], _∷_}
 use Prim.Native.Nat.{ℕ, zero, suc, _<_, _%_}

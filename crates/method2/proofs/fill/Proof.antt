@@ -1,7 +1,7 @@
--- `method2::fill` meets its contract. The invariant is `Filling`. Assumes nothing.
+-- `method2::fill` meets its contract. The invariant is `Filling`.
 use borrow.Author.Needs.{needs}
 use Prim.Native.Nat.{_-_}
-use Rattle.method2.proofs.Filling.{from-first, Filling, begins, turns, ends, in-scratch}
+use Rattle.method2.proofs.Filling.{from-first, Filling, filling-begins, filling-turns, filling-ends, filling-in-scratch}
 use Rattle.method2.proofs.fill.Statement.{statement}
 use Rattle.method2.proofs.fill.Tie as tie
 
@@ -14,5 +14,7 @@ abbrev μ : tie.MeasureT-loop
 pub fill-spec : {M : Type 1} → statement M
 fill-spec =
     tie.close
-    (tie.spec Inv μ (λ c κs. search needs) (λ c. search needs) (λ c κs. search needs) (λ c. search begins) (λ c. search needs) (λ c κs. search needs)
-    (λ c. search (in-scratch, from-first)) (λ c. search needs) (λ c. search needs) (λ c. search (turns, from-first)) (λ c. search needs) (λ c. search ends))
+    (tie.spec Inv μ (λ c κs. search needs) (λ c. search needs) (λ c κs. search needs) (λ c. search filling-begins) (λ c. search needs)
+    (λ c κs. search needs)
+    (λ c. search (filling-in-scratch, from-first)) (λ c. search needs) (λ c. search needs) (λ c. search (filling-turns, from-first))
+    (λ c. search needs) (λ c. search filling-ends))

@@ -1,4 +1,4 @@
--- `method2::r_prime` meets its contract. Assumes nothing.
+-- `method2::r_prime` meets its contract.
 use borrow.Author.Needs.{needs}
 use Rattle.bits.specs.Xor.{_⊕_}
 use Rattle.lookup.specs.Method2.{r-prime}

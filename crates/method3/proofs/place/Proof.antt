@@ -1,4 +1,4 @@
--- `method3::place` meets its contract. Assumes nothing.
+-- `method3::place` meets its contract.
 use borrow.Author.Needs.{needs}
 use Rattle.bits.specs.Xor.{_⊕_}
 use Rattle.lookup.specs.Method3.{place-3}

@@ -1,8 +1,8 @@
--- `method3::select` meets its contract. The invariant is `Selecting`. Assumes nothing.
+-- `method3::select` meets its contract. The invariant is `Selecting`.
 use borrow.Author.Needs.{needs}
 use Prim.Native.Nat.{_-_}
 use native.Mathlib.Omega.{arith}
-use Rattle.method3.proofs.Selecting.{Selecting, begins, ends, place-in-scratch, byte-a-register, turns-by-byte}
+use Rattle.method3.proofs.Selecting.{Selecting, selecting-begins, selecting-ends, place-in-scratch, byte-a-register, selecting-by-byte}
 use Rattle.method3.proofs.select.Statement.{statement}
 use Rattle.method3.proofs.select.Tie as tie
 
@@ -15,6 +15,8 @@ abbrev μ : tie.MeasureT-loop
 pub select-spec : {M : Type 1} → statement M
 select-spec =
     tie.close
-    (tie.spec Inv μ (λ c κs. search needs) (λ c. search needs) (λ c. search begins) (λ c κs. search needs) (λ c. search place-in-scratch)
-    (λ c. omega (arith, c .shared-slice-known3 .given (c .before .place .result))) (λ c κs. search needs) (λ c. search (byte-a-register, needs))
-    (λ c. search needs) (λ c. search needs) (λ c. search turns-by-byte) (λ c. search ends))
+    (tie.spec Inv μ (λ c κs. search needs) (λ c. search needs) (λ c. search selecting-begins) (λ c κs. search needs)
+    (λ c. search place-in-scratch)
+    (λ c. omega (arith, c .shared-slice-known3 .given (c .before .place .result))) (λ c κs. search needs)
+    (λ c. search (byte-a-register, needs))
+    (λ c. search needs) (λ c. search needs) (λ c. search selecting-by-byte) (λ c. search selecting-ends))

@@ -1,4 +1,4 @@
--- `refusals::any_byte_from` meets its contract, as `any_number_from` does. Assumes nothing.
+-- `refusals::any_byte_from` meets its contract, as `any_number_from` does.
 use borrow.Author.Needs.{needs}
 use mathlib.Core.Path.{_≡_, refl}
 use Prim.Native.Nat.{_-_}

@@ -1,4 +1,4 @@
--- `refusals::any_number_from` meets its contract. The invariant: what is left decides, since no number passed was the least or more. Assumes nothing.
+-- `refusals::any_number_from` meets its contract. The invariant: what is left decides, since no number passed was the least or more.
 use borrow.Author.Needs.{needs}
 use mathlib.Core.Path.{_≡_, refl}
 use Prim.Native.Nat.{_-_}

@@ -1,4 +1,4 @@
--- `refusals::outside` meets its contract. Assumes nothing.
+-- `refusals::outside` meets its contract.
 use borrow.Author.Tests.{lt-ltb, le-ltb}
 use Rattle.refusals.specs.Tests.{outside}
 use Rattle.refusals.proofs.outside.Statement.{statement}

@@ -1,4 +1,4 @@
--- `sbox::table` meets its contract: the table that the rule makes is computed, and each entry compared. Assumes nothing.
+-- `sbox::table` meets its contract: the table that the rule makes is computed, and each entry compared.
 use mathlib.Core.Path.{refl}
 use Rattle.bits.specs.Xor.{_⊕_}
 use Rattle.sbox.specs.Tabulate.{tabulate}

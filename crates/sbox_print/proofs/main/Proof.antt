@@ -1,4 +1,4 @@
--- `sbox_print::main` is safe and ends. The loop's invariant: `i` is at most 256. The measure is what is left of 256. Assumes nothing.
+-- `sbox_print::main` is safe and ends. The loop's invariant: `i` is at most 256. The measure is what is left of 256.
 use Prim.Native.Nat.{_≤_, _-_}
 use borrow.Author.Needs.{needs}
 use Rattle.sbox_print.proofs.main.Statement.{statement}

@@ -1,4 +1,4 @@
--- `shares::add_key` meets its contract. Assumes nothing.
+-- `shares::add_key` meets its contract.
 use borrow.Author.Needs.{needs}
 use Rattle.bits.specs.Xor.{_⊕_}
 use Rattle.shares.specs.Shares.{add-key}

@@ -1,4 +1,4 @@
--- `shares::join` meets its contract. Assumes nothing.
+-- `shares::join` meets its contract.
 use borrow.Author.Needs.{needs}
 use Rattle.bits.specs.Xor.{_⊕_}
 use Rattle.shares.specs.Shares.{join}

@@ -1,4 +1,4 @@
--- `shares::reply` meets its contract. Assumes nothing.
+-- `shares::reply` meets its contract.
 use Rattle.shares.proofs.Replies.{refused, accepted}
 use Rattle.shares.proofs.reply.Statement.{statement}
 use Rattle.shares.proofs.reply.Tie as tie

@@ -1,4 +1,4 @@
--- `shares::split` meets its contract. Assumes nothing.
+-- `shares::split` meets its contract.
 use borrow.Author.Needs.{needs}
 use Rattle.bits.specs.Xor.{_⊕_}
 use Rattle.shares.specs.Shares.{split}

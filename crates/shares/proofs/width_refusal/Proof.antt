@@ -1,4 +1,4 @@
--- `shares::width_refusal` meets its contract. Assumes nothing.
+-- `shares::width_refusal` meets its contract.
 use borrow.Author.Needs.{needs}
 use Rattle.refusals.proofs.Tests.{told, told-from}
 use Rattle.shares.proofs.Replies.{at-3, at-10, at-end, width-small}

@@ -1,4 +1,4 @@
--- `sheet::first_refusal` meets its contract. Assumes nothing.
+-- `sheet::first_refusal` meets its contract.
 use borrow.Author.Needs.{needs}
 use Rattle.sheet.proofs.first_refusal.Statement.{statement}
 use Rattle.sheet.proofs.first_refusal.Tie as tie

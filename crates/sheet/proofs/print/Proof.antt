@@ -1,4 +1,4 @@
--- `sheet::print` meets its contract. Assumes nothing.
+-- `sheet::print` meets its contract.
 use borrow.Author.Needs.{needs}
 use Rattle.sheet.proofs.Prints.{entries-lent, entries-within, answer-long, answer-left}
 use Rattle.sheet.proofs.print.Statement.{statement}

@@ -1,6 +1,7 @@
--- `sheet::reply` meets its contract. Assumes nothing.
+-- `sheet::reply` meets its contract.
 use borrow.Author.Needs.{needs}
-use Rattle.sheet.proofs.Replies.{refused-long, refused-left, count-within, entries-lent, few-lent, answer-room, answered-long, answered-left}
+use Rattle.sheet.proofs.Replies.{refused-long, refused-left, count-within, entries-lent}
+use Rattle.sheet.proofs.Replies.{few-lent, answer-room, answered-long, answered-left}
 use Rattle.sheet.proofs.reply.Statement.{statement}
 use Rattle.sheet.proofs.reply.Tie as tie
 

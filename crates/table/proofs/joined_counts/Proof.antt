@@ -1,4 +1,4 @@
--- `table::joined_counts` meets its contract. The invariant is `Joining`: the counts passed are joined. Assumes nothing.
+-- `table::joined_counts` meets its contract. The invariant is `Joining`: the counts passed are joined.
 use borrow.Author.Needs.{needs}
 use Prim.Native.Nat.{_-_}
 use Rattle.table.proofs.Counts.{Joining, join-begins, join-turns, join-ends}

@@ -1,10 +1,10 @@
--- `table::tally` meets its contract. The invariant is `Tallying`: the entries passed are counted and joined. Assumes nothing.
+-- `table::tally` meets its contract. The invariant is `Tallying`: the entries passed are counted and joined.
 use borrow.Author.Needs.{needs}
 use Prim.Native.Nat.{_-_}
 use native.Mathlib.Omega.{arith}
 use lib.Dec.{lit≤}
 use lib.ListN.{length}
-use Rattle.table.proofs.Counts.{Tallying, begins, turns, counter-small, counter-fits, ends}
+use Rattle.table.proofs.Counts.{Tallying, tallying-begins, tallying-turns, counter-small, counter-fits, tallying-ends}
 use Rattle.table.proofs.tally.Statement.{statement}
 use Rattle.table.proofs.tally.Tie as tie
 
@@ -31,10 +31,11 @@ element-write-counts : tie.Need-element-write-counts Inv μ
 element-write-counts c = c .before .shared-slice-known .given (c .before .before .before .loop .i) .fits
 
 loop-again : tie.Need-loop-again Inv μ
-loop-again c = search (turns, c .before .shared-slice-known .given (c .before .before .before .loop .i))
+loop-again c = search (tallying-turns, c .before .shared-slice-known .given (c .before .before .before .loop .i))
 
 pub tally-spec : {M : Type 1} → statement M
 tally-spec =
     tie.close
-    (tie.spec Inv μ (λ c. search begins) (λ c. search needs) cast-counts mul-counts element-copy-out-counts add-counts element-write-counts
-    (λ c. search needs) (λ c. search needs) loop-again (λ c. search ends))
+    (tie.spec Inv μ (λ c. search tallying-begins)
+    (λ c. search needs) cast-counts mul-counts element-copy-out-counts add-counts element-write-counts
+    (λ c. search needs) (λ c. search needs) loop-again (λ c. search tallying-ends))

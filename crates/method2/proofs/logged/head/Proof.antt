@@ -1,15 +1,14 @@
--- `method2::logged::head` meets its contract. Assumes nothing.
+-- `method2::logged::head` meets its contract.
 use mathlib.Core.Path.{refl}
 use borrow.Author.Needs.{needs}
 use Rattle.bits.specs.Xor.{_⊕_}
 use Rattle.lookup.specs.Method2.{r-prime}
-use Rattle.lookup.specs.Log.{head-2}
 use Rattle.lookup.proofs.Runs.{two-byte, three-byte}
 use Rattle.method2.proofs.logged.head.Statement.{statement}
 use Rattle.method2.proofs.logged.head.Tie as tie
 
 returns : tie.Need-returns
-unfolding head-2 r-prime _⊕_
+unfolding r-prime _⊕_
 returns c = refl
 
 pub head-spec : {M : Type 1} → statement M

@@ -1,12 +1,10 @@
--- `method3::logged::head` meets its contract. Assumes nothing.
+-- `method3::logged::head` meets its contract.
 use mathlib.Core.Path.{refl}
 use borrow.Author.Needs.{needs}
-use Rattle.lookup.specs.Log.{head-3}
 use Rattle.method3.proofs.logged.head.Statement.{statement}
 use Rattle.method3.proofs.logged.head.Tie as tie
 
 returns : tie.Need-returns
-unfolding head-3
 returns c = refl
 
 pub head-spec : {M : Type 1} → statement M

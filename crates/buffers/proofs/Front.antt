@@ -1,0 +1,31 @@
+-- What a loop keeps that fills the front of a buffer with one value.
+use mathlib.Core.Path.{_≡_, refl}
+use mathlib.Core.List.{List, _++_}
+use Prim.Native.Nat.{ℕ, _+_, _≤_, _<_}
+use native.Mathlib.Omega.{arith}
+use borrow.Author.Fill.{fill-none, fill-more}
+use lib.ListN.{length, drop, set, replicate, length-set}
+
+-- the first i bytes hold the value, and those behind them are as they were
+pub record Front (value size : ℕ) (before now : List ℕ) (i : ℕ) : Type 0 where
+  pub filled : now ≡ replicate i value ++ drop i before
+  pub within : i ≤ size
+  pub long : length now ≡ length before
+
+module _ (value size : ℕ) (before : List ℕ) where
+  pub front-begins : Front value size before before 0
+  front-begins = record { filled = fill-none before value; within = omega arith; long = refl }
+
+  pub front-turns : (now : List ℕ) (i : ℕ) → size ≤ length before → i < size → Front value size before now i
+      → Front value size before (set now i value) (i + 1)
+  front-turns now i room h f =
+      record {
+        filled = rw (f .filled) (fill-more i value before (omega arith));
+        within = omega arith;
+        long = simp length-set (f .long);
+      }
+
+  pub front-ends : (now : List ℕ) (i : ℕ) → size ≤ i → Front value size before now i → now ≡ replicate size value ++ drop size before
+  front-ends now i h f =
+      let whole : i ≡ size = omega (arith, f .within) in
+      rw whole at (f .filled)

@@ -1,0 +1,32 @@
+-- The laws of written lists: how one write follows another.
+use mathlib.Core.Path.{_≡_, sym, ap, _∙_}
+use mathlib.Core.List.{List, _++_, append-assoc}
+use Prim.Native.Nat.{ℕ, _+_, _≤_}
+use native.Mathlib.Nat.{zero-add}
+use native.Mathlib.Omega.{arith}
+use lib.ListN.{length, take, drop, length-append, length-drop}
+use lib.Seq.{drop-at, drop-drop, length-take-le, take-at}
+use Rattle.buffers.specs.Written.{written, in-front}
+
+-- entries written behind entries
+pub written-more : (log : List ℕ) (position k : ℕ) (es fs : List ℕ) → position + length es ≡ k → k + length fs ≤ length log
+    → written (written log position es) k fs ≡ written log position (es ++ fs)
+unfolding written
+written-more log position k es fs e h =
+    let before = take position log ++ es in
+    let long : length before ≡ k
+    = length-append (take position log) es ∙ ap (λ n. n + length es) (length-take-le position log (omega arith)) ∙ e in
+    let sizes : position + length es + length fs ≡ position + length (es ++ fs) = omega (arith, length-append es fs) in
+    let rest : drop (k + length fs) (before ++ drop (position + length es) log) ≡ drop (position + length (es ++ fs)) log
+    = sym (drop-drop (length fs) k _) ∙ rw (drop-at before _ k long) (drop-drop (length fs) _ log ∙ ap (λ n. drop n log) sizes) in
+    rw (take-at before (drop (position + length es) log) k long, rest) (simp append-assoc)
+
+pub written-long : (log : List ℕ) (position : ℕ) (es : List ℕ) → position + length es ≤ length log
+    → length (written log position es) ≡ length log
+unfolding written
+written-long log position es h =
+    simp (length-append, length-drop) (omega (arith, length-take-le position log (omega arith)))
+
+pub written-front : (log es : List ℕ) → written log 0 es ≡ in-front es log
+unfolding written in-front
+written-front log es = rw zero-add

@@ -1,0 +1,56 @@
+-- How the loop writes entries one after the other.
+use mathlib.Core.Path.{_≡_, refl, sym, ap, ap₂, _∙_}
+use mathlib.Core.List.{List, [], _∷_}
+use Prim.Native.Nat.{ℕ, zero, suc, _+_, _≤_, _<_}
+use native.Mathlib.Nat.{le-of-suc-le-suc, not-suc-le-zero}
+use native.Mathlib.Numerals.{add-one}
+use native.Mathlib.Omega.{arith}
+use lib.ListN.{length, getD, set, length-set}
+use lib.Seq.{paste, paste-zero, paste-suc, take-length}
+use Rattle.lookup.specs.Entry.{entry}
+use Rattle.buffers.specs.Written.{written}
+use Rattle.log_entries.specs.Entries.{entries}
+
+pub entries-long : (ks vs : List ℕ) → length ks ≡ length vs → length (entries ks vs) ≡ length ks
+unfolding entries
+entries-long [] vs e = refl
+entries-long (k ∷ ks) [] e = absurd (omega arith)
+entries-long (k ∷ ks) (v ∷ vs) e = ap suc (entries-long ks vs (omega arith))
+
+entries-at : (ks vs : List ℕ) (i : ℕ) → length ks ≡ length vs → i < length ks → getD (entries ks vs) i 0 ≡ entry (getD ks i 0) (getD vs i 0)
+unfolding entries
+entries-at [] vs i e h = absurd (not-suc-le-zero h)
+entries-at (k ∷ ks) [] i e h = absurd (omega arith)
+entries-at (k ∷ ks) (v ∷ vs) zero e h = refl
+entries-at (k ∷ ks) (v ∷ vs) (suc i) e h = entries-at ks vs i (omega arith) (le-of-suc-le-suc h)
+
+-- the log after the first i entries
+pub record Putting (before now : List ℕ) (position : ℕ) (kinds values : List ℕ) (i : ℕ) : Type 0 where
+  pub pasted : now ≡ paste before position (entries kinds values) i
+  pub within : i ≤ length kinds
+  pub long : length now ≡ length before
+
+pub putting-begins : (log : List ℕ) (position : ℕ) (kinds values : List ℕ) → Putting log log position kinds values 0
+putting-begins log position kinds values =
+    record { pasted = paste-zero log position (entries kinds values); within = omega arith; long = refl }
+
+pub putting-turns : (before now : List ℕ) (position : ℕ) (kinds values : List ℕ) (i e : ℕ) → length kinds ≡ length values
+    → position + length kinds ≤ length before
+    → i < length kinds → Putting before now position kinds values i → e ≡ entry (getD kinds i 0) (getD values i 0)
+    → Putting before (set now (position + i) e) position kinds values (i + 1)
+putting-turns before now position kinds values i e same room h p is =
+    record {
+      pasted =
+          ap₂ (λ l v. set l (position + i) v) (p .pasted) (is ∙ sym (entries-at kinds values i same h))
+          ∙ paste-suc before position (entries kinds values) i 0 (omega arith) (omega (arith, entries-long kinds values same))
+          ∙ rw add-one;
+      within = omega arith;
+      long = simp length-set (p .long);
+    }
+
+pub putting-ends : (before now : List ℕ) (position : ℕ) (kinds values : List ℕ) (i : ℕ) → length kinds ≡ length values → length kinds ≤ i
+    → Putting before now position kinds values i → now ≡ written before position (entries kinds values)
+unfolding written
+putting-ends before now position kinds values i same h p =
+    let whole : i ≡ length (entries kinds values) = omega (arith, entries-long kinds values same, p .within) in
+    p .pasted ∙ rw (whole, take-length)

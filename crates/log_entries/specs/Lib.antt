@@ -1,0 +1,2 @@
+-- What is written to a log.
+pub mod Entries

@@ -1,0 +1,89 @@
+-- What the method has that a number finds, is what the definitions say of the number.
+use mathlib.Core.Path.{_≡_, refl, sym, ap, subst, _∙_}
+use mathlib.Core.Logic.{inl, inr}
+use mathlib.Core.Bool.{true, false, true≢false}
+use mathlib.Core.List.{List}
+use Prim.Native.Nat.{ℕ, _^_, _≤_}
+use native.Mathlib.Decide.{ℕ-discrete}
+use native.Mathlib.Omega.{arith}
+use mir.Syntax.{w16}
+use mir.Val.{Fits}
+use lib.ListN.{length}
+use lib.Pow.{pow-mono}
+use Rattle.buffers.specs.Written.{in-front}
+use Rattle.lookup.specs.declared.Case.{Case}
+use Rattle.lookup.specs.Case.{Q}
+use Rattle.lookup.specs.Layout.{lines, layout-size}
+use Rattle.lookup.specs.Row.{row-entry}
+use Rattle.lookup.specs.Method.{Method, no-method}
+use Rattle.lookup.specs.Method3.{method-3}
+use Rattle.lookup.specs.Methods.{known, method-of}
+use Rattle.lookup.specs.Call.{answer, scratch-after, log-of, log-length, scratch-length}
+use Rattle.lookup.proofs.Methods.{method-3-of, known-2-or-3, not-known}
+
+pub known-2 : (k : ℕ) → k ≡ 2 → true ≡ known k
+known-2 k e = sym (known-2-or-3 (inl e))
+
+pub known-3 : (k : ℕ) → k ≡ 3 → true ≡ known k
+known-3 k e = sym (known-2-or-3 (inr e))
+
+pub known-none : (k : ℕ) → (k ≡ 2 → ⊥) → (k ≡ 3 → ⊥) → false ≡ known k
+known-none k h j = sym (not-known k h j)
+
+-- a known method that is not 2 is 3
+pub other-3-of : (k : ℕ) → known k ≡ true → (k ≡ 2 → ⊥) → method-of k ≡ method-3
+other-3-of k e h = method-3-of k (decided (ℕ-discrete k 3))
+  where
+    decided : Dec (k ≡ 3) → k ≡ 3
+    decided (yes p) = p
+    decided (no ne) = absurd (true≢false (sym e ∙ not-known k h ne))
+
+-- as many turns as a table has entries
+pub turns-fit : (turns n : ℕ) → turns ≡ 2 ^ n → n ≤ 8 → Fits w16 turns
+turns-fit turns n e h =
+    let most : 2 ^ n ≤ 256 = pow-mono h in
+    record { fits = omega arith }
+
+-- the method m is what the number k finds
+module _ (m : Method) (k : ℕ) where
+  pub b-most-by : method-of k ≡ m → m .b-most ≡ method-of k .b-most
+  b-most-by found = ap (λ (f : Method). f .b-most) (sym found)
+
+  pub scratch-length-by : (n told : ℕ) → method-of k ≡ m → told ≡ m .scratch-length (2 ^ n) → told ≡ scratch-length k n
+  unfolding scratch-length
+  scratch-length-by n told found e = e ∙ ap (λ (f : Method). f .scratch-length (2 ^ n)) (sym found)
+
+  pub log-length-by : (n turns told : ℕ) → method-of k ≡ m → turns ≡ 2 ^ n → told ≡ layout-size turns (m .layout) → told ≡ log-length k n
+  unfolding log-length
+  log-length-by n turns told found s e = e ∙ rw s (ap (λ (f : Method). layout-size (2 ^ n) (f .layout)) (sym found))
+
+pub no-log : (k n : ℕ) → method-of k ≡ no-method → 0 ≡ log-length k n
+no-log k n found =
+    let none : layout-size (2 ^ n) (no-method .layout) ≡ log-length k n = log-length-by no-method k n (2 ^ n) _ found refl refl in
+    omega arith
+
+-- the case's method is m: what its run asks and gives
+module _ (m : Method) (c : Case) where
+  pub scratch-room : (scratch : List ℕ) → method-of (c .method) ≡ m → scratch-length (c .method) (c .n) ≤ length scratch
+      → m .scratch-length (2 ^ c .n) ≤ length scratch
+  unfolding scratch-length
+  scratch-room scratch found h = subst (λ (f : Method). f .scratch-length (2 ^ c .n) ≤ length scratch) found h
+
+  pub log-room : (lent : List ℕ) → method-of (c .method) ≡ m → log-length (c .method) (c .n) ≤ length lent
+      → layout-size (2 ^ c .n) (m .layout) ≤ length lent
+  unfolding log-length
+  log-room lent found h = subst (λ (f : Method). layout-size (2 ^ c .n) (f .layout) ≤ length lent) found h
+
+  pub answer-by : (table : List ℕ) (r : ℕ) → method-of (c .method) ≡ m → r ≡ m .answer c table → r ≡ answer c table
+  unfolding answer
+  answer-by table r found e = e ∙ ap (λ (f : Method). f .answer c table) (sym found)
+
+  pub scratch-by : (table scratch now : List ℕ) → method-of (c .method) ≡ m → now ≡ m .scratch c table scratch
+      → now ≡ scratch-after c table scratch
+  unfolding scratch-after
+  scratch-by table scratch now found e = e ∙ ap (λ (f : Method). f .scratch c table scratch) (sym found)
+
+  pub log-by : (table lent now : List ℕ) → method-of (c .method) ≡ m → now ≡ in-front (lines (row-entry c table) (Q c) (m .layout)) lent
+      → now ≡ in-front (log-of c table) lent
+  unfolding log-of
+  log-by table lent now found e = e ∙ ap (λ (f : Method). in-front (lines (row-entry c table) (Q c) (f .layout)) lent) (sym found)

@@ -1,0 +1,70 @@
+-- What is proved of each method's secrecy: its masks are drawn in their widths, its rows pass the leak test, and they show its values.
+use mathlib.Core.Path.{refl}
+use mathlib.Core.List.{List, map}
+use Prim.Native.Nat.{ℕ, _^_, _≤_, _<_}
+use native.Mathlib.Omega.{arith}
+use lib.Dec.{T}
+use Rattle.counting.specs.Choice.{width, Within}
+use Rattle.probing.specs.Expression.{Setting}
+use Rattle.probing.specs.Test.{all-fine}
+use Rattle.lookup.specs.Layout.{Layout}
+use Rattle.lookup.specs.Method.{Method, class-width}
+use Rattle.lookup.specs.Method2.{method-2}
+use Rattle.lookup.specs.Method3.{method-3}
+use Rattle.lookup.specs.Methods.{methods}
+use Rattle.lookup.proofs.Each.{Each, none, more}
+use Rattle.lookup.proofs.Layouts.{Same-rows}
+use Rattle.secrecy.specs.Count.{single, chosen-case}
+use Rattle.secrecy.specs.Expressions.{Call-places, Shown, shown-2, shown-3, system, alone, setting, secrets}
+use Rattle.secrecy.proofs.Fine.{rows-at, fine-2, fine-3}
+use Rattle.secrecy.proofs.Shown.{Stands, row-value, expression-value, shows-2, shows-3}
+
+-- a single call's masks, as a method draws them
+pub record Drawn (method : Method) (n m : ℕ) (c : ℕ → ℕ) : Type 0 where
+  pub r1 : c 0 < 2 ^ n
+  pub r2 : c 1 < 2 ^ n
+  pub r3 : c 2 < 2 ^ n
+  pub s1 : c 3 < 2 ^ m
+  pub s2 : c 4 < 2 ^ m
+  pub b : c 5 ≤ method .b-most
+
+pub record Hiding (method : Method) : Type 0 where
+  pub rows : Call-places → Layout Shown
+  pub fine : (a a' : ℕ) → T (all-fine (system (method .mask-classes)) (rows-at (rows (alone single)) a) (rows-at (rows (alone single)) a'))
+  pub drawn : (n m : ℕ) (c : ℕ → ℕ) → Within (map (class-width n m) (method .mask-classes)) c → Drawn method n m c
+  pub shown : (s : Call-places) (number n m x : ℕ) (table : List ℕ) (setting : Setting) (secrets masks : ℕ → ℕ)
+      → Stands s method n x table setting secrets masks
+      → Same-rows (row-value (chosen-case (s .masks) number n m x masks) table) (expression-value setting secrets masks) (2 ^ n)
+      (method .layout) (rows s)
+
+drawn-2 : (n m : ℕ) (c : ℕ → ℕ) → Within (map (class-width n m) (method-2 .mask-classes)) c → Drawn method-2 n m c
+unfolding width
+drawn-2 n m c w =
+    record { r1 = w .each 0; r2 = w .each 1; r3 = w .each 2; s1 = w .each 3; s2 = w .each 4; b = omega (arith, w .each 5) }
+
+drawn-3 : (n m : ℕ) (c : ℕ → ℕ) → Within (map (class-width n m) (method-3 .mask-classes)) c → Drawn method-3 n m c
+unfolding width
+drawn-3 n m c w =
+    record { r1 = w .each 0; r2 = w .each 1; r3 = w .each 2; s1 = w .each 3; s2 = w .each 4; b = omega (arith, w .each 5) }
+
+pub hiding : Each Hiding methods
+hiding =
+    more (record { rows = shown-2; fine = fine-2; drawn = drawn-2; shown = shows-2 })
+    (more (record { rows = shown-3; fine = fine-3; drawn = drawn-3; shown = shows-3 }) none)
+
+-- a single call's masks and secrets stand where its rows say
+pub stands-alone : (method : Method) (n m x : ℕ) (table : List ℕ) (c : ℕ → ℕ) → x < 2 ^ n → Drawn method n m c
+    → Stands (alone single) method n x table (setting n m table) (secrets table x) c
+stands-alone method n m x table c h d =
+    record {
+      class = refl;
+      bit = refl;
+      entries = λ z. refl;
+      input = refl;
+      output = refl;
+      small = h;
+      r1 = d .r1;
+      r2 = d .r2;
+      r3 = d .r3;
+      b = d .b;
+    }

@@ -1,0 +1,31 @@
+-- `test_logged_calls::print_entries` is safe and ends: the place stays within the slice, and the measure is the number of values that
+-- are left.
+use Prim.Native.Nat.{_-_, _≤_}
+use lib.ListN.{length}
+use borrow.Author.Needs.{needs}
+use Rattle.test_logged_calls.proofs.print_entries.Statement.{statement}
+use Rattle.test_logged_calls.proofs.print_entries.Tie as tie
+
+abbrev Inv-loop : tie.InvT-loop
+Inv-loop whole entries checksum₀ at₀ checksum at = at ≤ length entries
+
+abbrev μ-loop : tie.MeasureT-loop
+μ-loop whole entries checksum₀ at₀ checksum at = length entries - at
+
+pub print-entries-spec : {M : Type 1} → statement M
+print-entries-spec =
+    tie.close
+    (tie.spec
+    Inv-loop
+    μ-loop
+    (λ c. search needs)
+    (λ c. search needs)
+    (λ c. search needs)
+    (λ c κs. tt)
+    (λ c κs. tt)
+    (λ c. search needs)
+    (λ c. search needs)
+    (λ c. search needs)
+    (λ c κs. tt)
+    (λ c. tt)
+    (λ c. tt))

@@ -1,0 +1,106 @@
+// Makes the logged calls that the records of the file `cases` ask for, and prints what each hands back and leaves as one line.
+// A record is 320 bytes: the call's ten numbers as little-endian u32 in the order of its parameters, then as u16 the lengths of
+// table, scratch and log, and from byte 46 the table. A line is refusal, share and count, then the lent scratch and log after
+// the call: whole where n is at most 2, and as a checksum each where it is larger.
+use lookup::Called;
+use lookup::Case;
+
+fn wide(byte: u8) -> u32 {
+    byte as u32
+}
+
+fn wide_entry(entry: u16) -> u32 {
+    entry as u32
+}
+
+// Takes one value of a buffer: prints it where the buffer is printed whole, and hands back the checksum with it in.
+// The checksum depends on every value and on their order.
+fn take(whole: bool, checksum: u32, value: u32) -> u32 {
+    if whole {
+        test_records::print_next(value);
+    }
+    (checksum % 65521 * 31 + value % 65536) % 65521
+}
+
+fn print_bytes(whole: bool, bytes: &[u8]) {
+    let mut checksum = 1;
+    let mut at = 0;
+    while at < bytes.len() {
+        checksum = take(whole, checksum, wide(bytes[at]));
+        at += 1;
+    }
+    if !whole {
+        test_records::print_next(checksum);
+    }
+}
+
+fn print_entries(whole: bool, entries: &[u16]) {
+    let mut checksum = 1;
+    let mut at = 0;
+    while at < entries.len() {
+        checksum = take(whole, checksum, wide_entry(entries[at]));
+        at += 1;
+    }
+    if !whole {
+        test_records::print_next(checksum);
+    }
+}
+
+fn case(record: &[u8]) -> Case {
+    Case {
+        method: test_records::number(record, 0),
+        n: test_records::number(record, 4),
+        m: test_records::number(record, 8),
+        x0: test_records::number(record, 12),
+        r1: test_records::number(record, 16),
+        r2: test_records::number(record, 20),
+        s1: test_records::number(record, 24),
+        s2: test_records::number(record, 28),
+        r3: test_records::number(record, 32),
+        b: test_records::number(record, 36),
+    }
+}
+
+fn print_line(called: Called, whole: bool, scratch: &[u8], log: &[u16]) {
+    test_records::print_first(called.refusal);
+    test_records::print_next(called.share);
+    test_records::print_next(called.count);
+    print_bytes(whole, scratch);
+    print_entries(whole, log);
+    test_records::end_line();
+}
+
+// Makes a record's call on the buffers lent, and prints its line.
+fn print_call(record: &[u8], scratch: &mut [u8], log: &mut [u16]) {
+    let table = test_records::part(record, 46, test_records::length(record, 40));
+    let called = calls::logged(case(record), table, scratch, log);
+    print_line(called, test_records::number(record, 4) <= 2, scratch, log);
+}
+
+// Lends filled buffers of the record's lengths, so that what a call writes and what it leaves can both be seen.
+fn answer(record: &[u8]) {
+    let mut scratch = [165u8; 300];
+    let mut log = [42405u16; 2400];
+    let bytes = test_records::least(test_records::length(record, 42), 300);
+    let entries = test_records::least(test_records::length(record, 44), 2400);
+    print_call(record, &mut scratch[..bytes], &mut log[..entries]);
+}
+
+// Reads one record and answers it; false where the file holds no more.
+fn answer_next(file: i32) -> bool {
+    let mut record = [0u8; 320];
+    if !test_records::read(file, &mut record) {
+        return false;
+    }
+    answer(&record);
+    true
+}
+
+// A proved loop has to end, so it counts down from more turns than any file of cases takes.
+fn main() {
+    let file = test_records::open();
+    let mut turns = u32::MAX;
+    while turns > 0 && answer_next(file) {
+        turns -= 1;
+    }
+}

@@ -1,0 +1,30 @@
+// The logged call for C programs that measure or audit it; it returns the refusal. Firmware links cippazhey and not this.
+ghost use mathlib.Core.Path.{_≡_};
+ghost use Rattle.calls.specs.Reply.{case-from, logged-reply, logged-scratch, logged-log};
+
+#[no_mangle]
+pub extern "C" fn cippazhey_logged_call(
+    method: u32,
+    n: u32,
+    m: u32,
+    x0: u32,
+    r1: u32,
+    r2: u32,
+    s1: u32,
+    s2: u32,
+    r3: u32,
+    b: u32,
+    table: &[u8],
+    scratch: &mut [u8],
+    log: &mut [u16],
+) -> u32
+    ensures { λ r. ⌜ r ≡ logged-reply (case-from method n m x0 r1 r2 s1 s2 r3 b) (now (table .entry)) (now (scratch .entry))
+        (now (log .entry)) .refusal ⌝ }
+    ensures { λ _. ⌜ now (scratch .exit) ≡ logged-scratch (case-from method n m x0 r1 r2 s1 s2 r3 b) (now (table .entry))
+        (now (scratch .entry)) (now (log .entry)) ⌝ }
+    ensures { λ _. ⌜ now (log .exit) ≡ logged-log (case-from method n m x0 r1 r2 s1 s2 r3 b) (now (table .entry)) (now (scratch .entry))
+        (now (log .entry)) ⌝ }
+{
+    let called = calls::logged_call(method, n, m, x0, r1, r2, s1, s2, r3, b, table, scratch, log);
+    called.refusal
+}
