@@ -165,6 +165,8 @@ def counts():
         yield f"secrets of method {method}", {case.x0 ^ case.r1 ^ case.r2 for case in model.choices(method, 2, 1, 2)}, {2}
         yield f"cases of method {method}", {case[:3] for case in model.choices(method, 2, 1, 2)}, {(method, 2, 1)}
     yield "one position twice", model.pair_counts([1, 0], 2, 1, 1, 0, 1, 1), {(0, 0): 16, (1, 1): 16}
+    for secret in range(4):
+        yield f"values above 1 at {secret}", model.pair_counts(TABLE_A, 2, 2, 2, secret, 0, 33)[3, 2], 64
 
 
 # Position 13 is kind 14 at a = 0, and position 33 the answer, at n = 2 under method 2.

@@ -1,4 +1,4 @@
--- Document 01's bench sheet, P1 to P12: on each line what the definitions come to, and what the paper says.
+-- Document 01's bench sheet, P1 to P12, and counts beside it: on each line what the definitions come to, and what the paper says.
 use mathlib.Core.Path.{_≡_}
 use mathlib.Core.List.{List, [], _∷_, _++_, map}
 use Prim.Native.Nat.{ℕ, suc}
@@ -74,6 +74,12 @@ sheet =
     ∷ pairs (1 ∷ 0 ∷ []) 2 1 1 0 0 21 says (8 ∷ 8 ∷ 8 ∷ 8 ∷ [])
     ∷ pairs (1 ∷ 0 ∷ []) 2 1 1 1 0 21 says (8 ∷ 8 ∷ 8 ∷ 8 ∷ [])
     ∷ (over (mask-widths 2 1 1) (λ c. 1) ∷ []) says (32 ∷ [])
+    -- 'Leaks that look harmless': P6's refused table, kind 14 at a = 0 and the answer both 0: 96 of 256 choices for x = 0, 32 for x = 3
+    ∷ (count (0 ∷ 0 ∷ 0 ∷ 1 ∷ []) 2 2 1 0 13 33 0 0 ∷ count (0 ∷ 0 ∷ 0 ∷ 1 ∷ []) 2 2 1 3 13 33 0 0 ∷ []) says (96 ∷ 32 ∷ [])
+    ∷ (over (mask-widths 2 2 1) (λ c. 1) ∷ []) says (256 ∷ [])
+    -- values above 1, which no line of the paper counts: x0 = 3 and the answer 2 with table A, a sixteenth of the choices for every input
+    ∷ (count A 2 2 2 0 0 33 3 2 ∷ count A 2 2 2 3 0 33 3 2 ∷ []) says (64 ∷ 64 ∷ [])
+    ∷ (over (mask-widths 2 2 2) (λ c. 1) ∷ []) says (1024 ∷ [])
     ∷ []
 
 -- the definitions come to what the paper says
