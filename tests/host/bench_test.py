@@ -120,7 +120,11 @@ WRONG = [
 ]
 
 
+# What differs must be the wrong programs' doing, so the right one must not.
 def control(program):
+    compared, differing = compare("files", [program], 20)
+    if compared != 20 or differing:
+        yield "files: the right program differs"
     for what, way, limit, script in WRONG:
         compared, differing = compare(way, ["/bin/sh", "-c", script, program], limit)
         print(f"{what}, {way}: {compared} inputs, {len(differing)} differ")
