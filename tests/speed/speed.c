@@ -13,6 +13,9 @@ uint32_t cippazhey_logged_call(uint32_t method, uint32_t n, uint32_t m, uint32_t
                                uint32_t s2, uint32_t r3, uint32_t b, const uint8_t *table, size_t table_length,
                                uint8_t *scratch, size_t scratch_length, uint16_t *log, size_t log_length);
 
+// What is timed: each round makes so many calls of each kind under each method.
+enum { KINDS = 5, ROUNDS = 200, CALLS = 1000 };
+
 static uint8_t table[256], scratch[256];
 static uint16_t log_entries[2400];
 static volatile unsigned sink;
@@ -51,24 +54,31 @@ static void run(const char *kind, uint32_t method, uint32_t n, long times) {
 
 static double nanoseconds(const char *kind, uint32_t method) {
     struct timespec from, to;
-    double best = 1e18;
-    for (int round = 0; round < 15; round++) {
-        clock_gettime(CLOCK_MONOTONIC, &from);
-        run(kind, method, 8, 2000);
-        clock_gettime(CLOCK_MONOTONIC, &to);
-        double each = ((to.tv_sec - from.tv_sec) * 1e9 + (double)(to.tv_nsec - from.tv_nsec)) / 2000;
-        if (each < best) best = each;
+    clock_gettime(CLOCK_MONOTONIC, &from);
+    run(kind, method, 8, CALLS);
+    clock_gettime(CLOCK_MONOTONIC, &to);
+    return ((to.tv_sec - from.tv_sec) * 1e9 + (double)(to.tv_nsec - from.tv_nsec)) / CALLS;
+}
+
+// The best time of each kind under each method. Every round times all of them, so that other work on the machine slows none alone.
+static void print_times(void) {
+    static const char *kinds[] = {"plain", "logged", "baseline_plain", "guarded_plain", "baseline_logged"};
+    double best[2 * KINDS];
+    for (int each = 0; each < 2 * KINDS; each++) best[each] = 1e18;
+    for (int round = 0; round < ROUNDS; round++) {
+        for (int each = 0; each < 2 * KINDS; each++) {
+            double time = nanoseconds(kinds[each / 2], 2 + each % 2);
+            if (time < best[each]) best[each] = time;
+        }
     }
-    return best;
+    for (int each = 0; each < 2 * KINDS; each++) printf("%s %d %.0f\n", kinds[each / 2], 2 + each % 2, best[each]);
 }
 
 int main(int count, char **words) {
-    static const char *kinds[] = {"plain", "logged", "baseline_plain", "guarded_plain", "baseline_logged"};
     if (count == 5) {
         run(words[1], (uint32_t)atoi(words[2]), (uint32_t)atoi(words[3]), atol(words[4]));
-        return 0;
+    } else {
+        print_times();
     }
-    for (unsigned k = 0; k < 5; k++)
-        for (uint32_t method = 2; method <= 3; method++) printf("%s %u %.0f\n", kinds[k], method, nanoseconds(kinds[k], method));
     return 0;
 }

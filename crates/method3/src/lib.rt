@@ -36,13 +36,13 @@ fn prepare(case: Case, scratch: &mut [u8])
     ensures { λ _. ⌜ now (scratch .exit) ≡ scratch-3 case (now (scratch .entry)) ⌝ }
     ensures { λ _. ⌜ take (Q case) (now (scratch .exit)) ≡ comparison-table case ⌝ }
 {
-    let size = bits::power(case.n) as usize;
+    let size = bits::power(case.n) as u16;
     let r3 = case.r3 as usize;
     let b = case.b as u8;
     let other = 1 - b;
-    let mut i = 0;
+    let mut i: u16 = 0;
     while i < size {
-        scratch[i] = other;
+        scratch[i as usize] = other;
         i += 1;
     }
     scratch[r3] = b;

@@ -39,10 +39,11 @@ fn tally(table: &[u8], counts: &mut [u16; 256]) -> u8
     requires { ⌜ (length (now table) ≤ 256) × (now counts ≡ replicate 256 0) ⌝ }
     ensures { λ r. ⌜ Tally (now (table .entry)) (now (counts .exit)) r ⌝ }
 {
+    let size = table.len() as u16;
     let mut joined = 0;
-    let mut i = 0;
-    while i < table.len() {
-        let entry = table[i];
+    let mut i: u16 = 0;
+    while i < size {
+        let entry = table[i as usize];
         counts[entry as usize] += 1;
         joined |= entry;
         i += 1;
@@ -56,9 +57,9 @@ fn joined_counts(counts: &[u16; 256]) -> u16
     ensures { λ r. ⌜ Joined-counts (now (counts .entry)) r ⌝ }
 {
     let mut joined = 0;
-    let mut value = 0;
+    let mut value: u16 = 0;
     while value < 256 {
-        joined |= counts[value];
+        joined |= counts[value as usize];
         value += 1;
     }
     joined

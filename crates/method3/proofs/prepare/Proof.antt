@@ -24,5 +24,5 @@ prepare-spec =
     tie.close
     (tie.spec Inv μ (λ c κs. search needs) (λ c. search needs) (λ c. search needs) (λ c. search needs) (λ c. search needs)
     (λ c. search front-begins)
-    (λ c. search needs) (λ c. search needs) (λ c. search needs) (λ c. search (front-turns, room)) (λ c. search needs) (λ c. search needs)
+    (λ c. search needs) (λ c. search needs) (λ c. search needs) (λ c. search needs) (λ c. search (front-turns, room)) (λ c. search needs) (λ c. search needs)
     (λ c. (search prepared-ends, search prepared-compares)))

@@ -15,4 +15,4 @@ pub joined-counts-spec : {M : Type 1} → statement M
 joined-counts-spec =
     tie.close
     (tie.spec Inv μ (λ c. search join-begins) (λ c. search needs) (λ c. search needs) (λ c. search needs) (λ c. search needs)
-    (λ c. search join-turns) (λ c. search join-ends))
+    (λ c. search needs) (λ c. search join-turns) (λ c. search join-ends))

@@ -9,10 +9,10 @@ use Rattle.table.proofs.tally.Statement.{statement}
 use Rattle.table.proofs.tally.Tie as tie
 
 abbrev Inv : tie.InvT-loop
-Inv table counts₀ joined₀ i₀ counts joined i = Tallying table i counts joined
+Inv table counts₀ size joined₀ i₀ counts joined i = Tallying table i counts joined
 
 abbrev μ : tie.MeasureT-loop
-μ table counts₀ joined₀ i₀ counts joined i = length table - i
+μ table counts₀ size joined₀ i₀ counts joined i = size - i
 
 -- an entry is a byte
 cast-counts : tie.Need-cast-counts Inv μ
@@ -36,6 +36,6 @@ loop-again c = search (tallying-turns, c .before .shared-slice-known .given (c .
 pub tally-spec : {M : Type 1} → statement M
 tally-spec =
     tie.close
-    (tie.spec Inv μ (λ c. search tallying-begins)
-    (λ c. search needs) cast-counts mul-counts element-copy-out-counts add-counts element-write-counts
+    (tie.spec Inv μ (λ c. search needs) (λ c. search tallying-begins)
+    (λ c. search needs) (λ c. search needs) cast-counts mul-counts element-copy-out-counts add-counts element-write-counts
     (λ c. search needs) (λ c. search needs) loop-again (λ c. search tallying-ends))
