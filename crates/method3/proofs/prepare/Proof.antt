@@ -23,6 +23,6 @@ pub prepare-spec : {M : Type 1} → statement M
 prepare-spec =
     tie.close
     (tie.spec Inv μ (λ c κs. search needs) (λ c. search needs) (λ c. search needs) (λ c. search needs) (λ c. search needs)
-    (λ c. search front-begins)
-    (λ c. search needs) (λ c. search needs) (λ c. search needs) (λ c. search needs) (λ c. search (front-turns, room)) (λ c. search needs) (λ c. search needs)
+    (λ c. search front-begins) (λ c. search needs) (λ c. search needs) (λ c. search needs) (λ c. search needs)
+    (λ c. search (front-turns, room)) (λ c. search needs) (λ c. search needs)
     (λ c. (search prepared-ends, search prepared-compares)))
