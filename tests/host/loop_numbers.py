@@ -1,94 +1,86 @@
-# Holds loops to a number of 16 bits, as they run over a table, its scratch or its counts. No contract can see that: a wider number would be
-# proved too. Loops over something else are listed, and keep the usize of an index. Programs and what only tests use are not looked at.
-# Run: python3 tests/host/loop_numbers.py. The status is 0 if every other loop has one.
-# It tries itself first: the texts of the first list must be found wrong, and those of the second must not.
+# Holds the number of each loop over a table, its scratch or its counts to 16 bits. No contract can see that: a wider number would be proved
+# too. What `rt mir` prints of an archive is read, where every number has its width.
+# Run: python3 tests/host/loop_numbers.py FILE.., the MIR of all archives. The status is 0 if every loop is as it must be.
 import re
 import sys
 from pathlib import Path
 
-CRATES = Path(__file__).resolve().parents[2] / "crates"
-# What the loop of a function runs over. A name that no function with a wider number has any more is an error.
-OTHERS = {
-    "refusals::any_number_from": "a slice of any length",
-    "refusals::any_byte_from": "a slice of any length",
-    "linear::mapped": "the rows of a matrix",
-    "log_entries::put": "a slice of any length",
-    "field::spaces": "a slice of any length",
-    "field::decimal": "a slice of any length",
-    "field::print_front": "the columns of a field",
-    "case_sheet::leading": "a slice of any length: the numbers or the table of a case sheet",
-    "log_print::put_entries": "a slice of any length",
+# The functions with such a loop.
+OVER_TABLES = {
+    "table::tally",
+    "table::joined_counts",
+    "method2::fill",
+    "method2::logged::fill",
+    "method3::prepare",
+    "method3::select",
+    "method3::logged::select",
 }
-FOUND = [
-    "fn f() {\nlet mut a = 0;\nwhile a < turns {",
-    "fn f() {\nlet mut a: u8 = 0;\nwhile a < turns {",
-    "fn f() {\nlet mut a: u32 = 0;\nwhile a < turns {",
-    "fn f() {\nlet mut i: usize = 0;\nwhile i < table.len() {",
-    "fn f() {\nlet mut a: u16 = 0;\nwhile (a as usize) < size {",
-    "fn f() {\nlet mut a: u16 = 0;\nwhile a < turns && b {",
-    "fn f() {\nlet mut b: u16 = 0;\nwhile a < turns {",
-    "fn f() {\nlet mut a: u16 = 0;\nlet mut a = a as usize;\nwhile a < turns {",
-    "fn f() {\nlet mut i: u16 = 0;\nwhile i < size {\n}\nlet mut i = 0;\nwhile i < size {",
-    "fn f() {\nlet mut a: u16 = 0;\n}\npub(crate) fn g() {\nwhile a < turns {",
-    "fn f() {\n// let mut a: u16 = 0;\nwhile a < turns {",
-    "fn f() {\n/* let mut a: u16 = 0;\n*/ while a < turns {",
-    "fn f() {\nlet mut left: u32 = 256;\nwhile 0 < left {",
-    "fn f() {\nfor i in 0..256 {",
-    "fn f() {\nlet last = loop {",
-]
-FINE = [
-    "fn f() {\nlet mut a: u16 = 0;\nwhile a < turns {",
-    "fn f() {\nlet mut i: u16 = 0;\nwhile i < size {\n}\nlet mut i: u16 = 0;\nwhile i < 256 {",
-    "// for each turn, while one is left\nfn f() {\nlet mut a = 0;\n}",
-]
-COMMENT = re.compile(r"//[^\n]*|/\*.*?\*/", re.DOTALL)
-LOOP = re.compile(r"\b(?:while|for|loop)\b[^\n]*")
-NUMBERED = re.compile(r"while (\w+) < \w+ \{")
+# The functions with a loop over something else, and what that is.
+OTHERS = {"log_entries::put": "the kinds and values of a row, slices of any length"}
 
 
-# Each function of a text: its name, and the text from its name to the next one's.
-def functions(text):
-    parts = re.split(r"\bfn (\w+)", COMMENT.sub("", text))
-    return zip(parts[1::2], parts[2::2])
+# A text of the form (word (word ..) ..), as lists in a list.
+def parsed(text):
+    open_lists = [[]]
+    for word in re.findall(r'"[^"]*"|[()]|[^\s()]+', text):
+        if word == "(":
+            open_lists.append([])
+        elif word == ")":
+            open_lists[-2].append(open_lists.pop())
+        else:
+            open_lists[-1].append(word.strip('"'))
+    return open_lists[0]
 
 
-# Whether the last declaration of a loop's number before the loop gives it 16 bits.
-def narrow(loop, before):
-    number = NUMBERED.fullmatch(loop)
-    declared = number and re.findall(rf"let (?:mut )?{number[1]}\b(.*?)=", before)
-    return bool(declared) and declared[-1] == ": u16 "
+# The lists in a list, at any depth, that begin with a word.
+def parts(term, word):
+    waiting = [term]
+    while waiting:
+        part = waiting.pop()
+        if part[:1] == [word]:
+            yield part
+        waiting.extend(inner for inner in part if isinstance(inner, list))
 
 
-# The functions with a loop whose number has another width, and the loop.
-def wrong(text):
-    for name, body in functions(text):
-        for loop in LOOP.finditer(body):
-            if not narrow(loop[0], body[: loop.start()]):
-                yield name, loop[0]
+# What a loop compares before each turn: the first operand of its first statement, a test whether one number is less than another.
+def compared(loop):
+    statement = loop[1]
+    while statement[0] == "seq":
+        statement = statement[1]
+    if statement[0] == "assign" and statement[2][:2] == ["op2", ["lt", "unsigned"]]:
+        return statement[2][2]
+    return None
 
 
-def wrong_in_crates():
-    for file in sorted(CRATES.glob("*/src/**/*.rt")):
-        crate = file.relative_to(CRATES).parts[0]
-        if not crate.startswith("test_") and file.name != "main.rt":
-            for name, loop in wrong(file.read_text()):
-                yield f"{crate}::{name}", loop
+# Each local that a loop counts up or down: the operation, the local and the amount.
+def steps(loop):
+    return [value[1:] for _, place, value in parts(loop, "assign") if value[0] == "op2" and counts(value[1]) and value[2] == ["copy", place]]
 
 
-def complaints():
-    for text in FOUND:
-        if not list(wrong(text)):
-            yield f"not found: {text}"
-    for text in FINE:
-        if list(wrong(text)):
-            yield f"found, and is fine: {text}"
-    wider = dict(wrong_in_crates())
-    yield from (f"{name}: {loop}" for name, loop in wider.items() if name not in OTHERS)
-    yield from (f"{name} is listed, and has no such loop" for name in OTHERS if name not in wider)
+def counts(operation):
+    return operation[0] in ("add", "sub")
+
+
+# The loop adds 1 to what it compares, and counts nothing else. Operands have one width, so the 1 tells the number's.
+def has_number_of_16_bits(loop):
+    return steps(loop) == [[["add", "unsigned"], compared(loop), ["int", "16", "1"]]]
+
+
+def complaints(text):
+    looping = set()
+    for _, name, function, *_ in parts(parsed(text), "fn-def"):
+        if ["fnRef", name] in parts(function, "fnRef"):
+            yield f"{name}: it calls itself"
+        for loop in parts(function, "loop"):
+            looping.add(name)
+            if name in OVER_TABLES and not has_number_of_16_bits(loop):
+                yield f"{name}: a loop that does not count by 1 in 16 bits, or counts something else too"
+    yield from (f"{name}: a loop that is not listed" for name in sorted(looping - OVER_TABLES - OTHERS.keys()))
+    yield from (f"{name}: no loop" for name in sorted((OVER_TABLES | OTHERS.keys()) - looping))
 
 
 def main():
-    found = list(complaints())
+    found = list(complaints(" ".join(Path(file).read_text() for file in sys.argv[1:])))
     print("\n".join(found))
     sys.exit(1 if found else 0)
 
