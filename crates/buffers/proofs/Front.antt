@@ -1,10 +1,11 @@
 -- What a loop keeps that fills the front of a buffer with one value.
 use mathlib.Core.Path.{_≡_, refl}
-use mathlib.Core.List.{List, _++_}
+use mathlib.Core.List.{List, _++_, append-nil}
 use Prim.Native.Nat.{ℕ, _+_, _≤_, _<_}
 use native.Mathlib.Omega.{arith}
 use borrow.Author.Fill.{fill-none, fill-more}
 use lib.ListN.{length, drop, set, replicate, length-set}
+use lib.Seq.{drop-length}
 
 -- the first i bytes hold the value, and those behind them are as they were
 pub record Front (value size : ℕ) (before now : List ℕ) (i : ℕ) : Type 0 where
@@ -29,3 +30,9 @@ module _ (value size : ℕ) (before : List ℕ) where
   front-ends now i h f =
       let whole : i ≡ size = omega (arith, f .within) in
       rw whole at (f .filled)
+
+-- the whole buffer, where the loop has gone to its end
+pub front-whole : (value : ℕ) (before now : List ℕ) (i : ℕ) → length now ≤ i → Front value (length before) before now i
+    → now ≡ replicate (length before) value
+front-whole value before now i h f =
+    rw (drop-length before, append-nil) at (front-ends value (length before) before now i (omega (arith, f .long)) f)

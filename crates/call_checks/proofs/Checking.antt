@@ -16,6 +16,7 @@ use Rattle.lookup.specs.Call.{log-length, scratch-length}
 use Rattle.lookup.specs.Refusals.{method-checks, mask-checks, scratch-checks, log-checks}
 use Rattle.lookup.specs.Refusals.{case-checks, case-refusal, plain-refusal, logged-refusal}
 use Rattle.lookup.proofs.Accepted.{accepted}
+use Rattle.lookup.proofs.Refused.{case-numbered, plain-numbered, plain-case}
 
 module _ (c : Case) (table : List ℕ) where
   -- 2, then the table's numbers, then the masks'
@@ -45,36 +46,18 @@ module _ (c : Case) (table : List ℕ) where
   pub width-small : (k : ℕ) → k ≡ case-refusal c table → k ≡ 0 → c .n ≤ 8
   width-small k e z = accepted c table (sym e ∙ z) .1 .table .input-most
 
-  case-numbered : numbered (case-checks c table) ≡ true
-  unfolding numbered case-checks method-checks table-checks mask-checks
-  case-numbered = refl
-
   module _ (scratch : List ℕ) where
-    -- 13
+    -- 2 to 12, then 13 and 19
     pub at-case : (k : ℕ) → k ≡ case-refusal c table → (k ≡ 0 → ⊥) → k ≡ plain-refusal c table scratch
     unfolding case-refusal plain-refusal
     at-case k e h = stops-both (case-checks c table) (scratch-checks c scratch) e h
 
-    pub at-13 : (k size : ℕ) → k ≡ case-refusal c table → k ≡ 0 → size ≡ scratch-length (c .method) (c .n) → length scratch < size
-        → 13 ≡ plain-refusal c table scratch
-    unfolding case-refusal plain-refusal scratch-checks
-    at-13 k size e z s h = goes-both (case-checks c table) _ case-numbered (sym z ∙ e) (stops 13 _ (lt-ltb _ _ (rw s at h)))
-
-    pub at-room : (k size : ℕ) → k ≡ case-refusal c table → k ≡ 0 → size ≡ scratch-length (c .method) (c .n) → size ≤ length scratch
-        → 0 ≡ plain-refusal c table scratch
-    unfolding case-refusal plain-refusal scratch-checks
-    at-room k size e z s h = goes-both (case-checks c table) _ case-numbered (sym z ∙ e) (goes 13 _ (le-ltb _ _ (rw s at h)) none-applies)
-
-    plain-numbered : numbered (case-checks c table ++ scratch-checks c scratch) ≡ true
-    unfolding numbered case-checks method-checks table-checks mask-checks scratch-checks
-    plain-numbered = refl
-
-    pub plain-case : plain-refusal c table scratch ≡ 0 → (case-refusal c table ≡ 0) × (first-of (scratch-checks c scratch) ≡ 0)
+    pub at-scratch : (k p : ℕ) → k ≡ case-refusal c table → k ≡ 0 → p ≡ first-of (scratch-checks c scratch) → p ≡ plain-refusal c table scratch
     unfolding case-refusal plain-refusal
-    plain-case e = passed-both (case-checks c table) (scratch-checks c scratch) case-numbered e
+    at-scratch k p e z h = goes-both (case-checks c table) _ (case-numbered c table) (sym z ∙ e) h
 
     pub width-most : (k : ℕ) → k ≡ plain-refusal c table scratch → k ≡ 0 → c .n ≤ 8
-    width-most k e z = accepted c table (plain-case (sym e ∙ z) .0) .1 .table .input-most
+    width-most k e z = accepted c table (plain-case c table scratch (sym e ∙ z) .0) .1 .table .input-most
 
     module _ (lent : List ℕ) where
       -- 14
@@ -86,15 +69,11 @@ module _ (c : Case) (table : List ℕ) where
           → 14 ≡ logged-refusal c table scratch lent
       unfolding plain-refusal logged-refusal log-checks
       at-14 k size e z s h =
-          goes-both (case-checks c table ++ scratch-checks c scratch) _ plain-numbered (sym z ∙ e) (stops 14 _ (lt-ltb _ _ (rw s at h)))
+          goes-both (case-checks c table ++ scratch-checks c scratch) _ (plain-numbered c table scratch) (sym z ∙ e) (stops 14 _ (lt-ltb _ _ (rw s at h)))
 
       pub at-end : (k size : ℕ) → k ≡ plain-refusal c table scratch → k ≡ 0 → size ≡ log-length (c .method) (c .n) → size ≤ length lent
           → 0 ≡ logged-refusal c table scratch lent
       unfolding plain-refusal logged-refusal log-checks
       at-end k size e z s h =
-          goes-both (case-checks c table ++ scratch-checks c scratch) _ plain-numbered (sym z ∙ e)
+          goes-both (case-checks c table ++ scratch-checks c scratch) _ (plain-numbered c table scratch) (sym z ∙ e)
           (goes 14 _ (le-ltb _ _ (rw s at h)) none-applies)
-
-      pub logged-plain : logged-refusal c table scratch lent ≡ 0 → (plain-refusal c table scratch ≡ 0) × (first-of (log-checks c lent) ≡ 0)
-      unfolding plain-refusal logged-refusal
-      logged-plain e = passed-both (case-checks c table ++ scratch-checks c scratch) (log-checks c lent) plain-numbered e

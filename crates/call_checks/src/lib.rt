@@ -1,11 +1,15 @@
 // The refusals of the logged and the plain call, each list of checks in its order.
 ghost use mathlib.Core.Path.{_≡_};
+ghost use mathlib.Core.Bool.{cond};
 ghost use Prim.Native.Nat.{_≤_};
+ghost use lib.Dec.{leb};
+ghost use lib.ListN.{length};
 ghost use Rattle.refusals.specs.Checks.{first-of};
-ghost use Rattle.lookup.specs.Refusals.{mask-checks, case-refusal, plain-refusal, logged-refusal};
+ghost use Rattle.lookup.specs.Refusals.{mask-checks, scratch-checks, dirty as Refusals·dirty};
+ghost use Rattle.lookup.specs.Refusals.{case-refusal, plain-refusal, logged-refusal};
 use lookup::Case;
 
-// 2 to 14
+// 2 to 13, 19 and 14
 pub fn refused_logged(case: Case, table: &[u8], scratch: &[u8], log: &[u16]) -> u32
     ensures { λ r. ⌜ r ≡ logged-refusal case (now (table .entry)) (now (scratch .entry)) (now (log .entry)) ⌝ }
 {
@@ -19,7 +23,7 @@ pub fn refused_logged(case: Case, table: &[u8], scratch: &[u8], log: &[u16]) -> 
     0
 }
 
-// 2 to 13
+// 2 to 13, and 19
 pub fn refused_plain(case: Case, table: &[u8], scratch: &[u8]) -> u32
     ensures { λ r. ⌜ r ≡ plain-refusal case (now (table .entry)) (now (scratch .entry)) ⌝ }
 {
@@ -27,10 +31,7 @@ pub fn refused_plain(case: Case, table: &[u8], scratch: &[u8]) -> u32
     if refusal != 0 {
         return refusal;
     }
-    if scratch.len() < methods::scratch_length(case.method, case.n) {
-        return 13;
-    }
-    0
+    refused_scratch(case, scratch)
 }
 
 // 2 to 12
@@ -77,4 +78,43 @@ fn refused_masks(case: Case) -> u32
         return 12;
     }
     0
+}
+
+// 13 and 19. The width has been checked, so it has a `requires`.
+fn refused_scratch(case: Case, scratch: &[u8]) -> u32
+    requires { ⌜ case .n ≤ 8 ⌝ }
+    ensures { λ r. ⌜ r ≡ first-of (scratch-checks case (now (scratch .entry))) ⌝ }
+{
+    let size = methods::scratch_length(case.method, case.n);
+    if scratch.len() < size as usize {
+        return 13;
+    }
+    if dirty(scratch, size) {
+        return 19;
+    }
+    0
+}
+
+// Whether one of the first bytes is not zero. What an earlier call left is handled a byte at a time, and nothing is made of two of them: each
+// byte marks one of two cells, the second where it is not zero, and no byte ends the loop. Only tests/audit guards that: a loop that
+// joins all bytes, or leaves at the first, is proved too.
+fn dirty(scratch: &[u8], size: u16) -> bool
+    requires { ⌜ size ≤ length (now scratch) ⌝ }
+    ensures { λ r. ⌜ r ≡ Refusals·dirty size (now (scratch .entry)) ⌝ }
+{
+    let mut cells: [u8; 2] = [0, 0];
+    let mut i: u16 = 0;
+    while i < size {
+        let at = cell(scratch[i as usize]);
+        cells[at] = 1;
+        i += 1;
+    }
+    cells[1] != 0
+}
+
+// The cell that a byte marks. Sums and a quotient, since a test of the byte would be joined with the test before it.
+fn cell(byte: u8) -> usize
+    ensures { λ r. ⌜ r ≡ cond (leb 1 byte) 1 0 ⌝ }
+{
+    (byte as usize + 255) / 256
 }

@@ -15,11 +15,11 @@ use Rattle.lookup.specs.declared.Case.{Case}
 use Rattle.lookup.specs.Bounded.{Bounded}
 use Rattle.lookup.specs.Methods.{known}
 use Rattle.lookup.specs.Call.{answer, scratch-after, log-of, log-length, scratch-length}
-use Rattle.lookup.specs.Refusals.{scratch-checks, log-checks, plain-refusal, logged-refusal}
+use Rattle.lookup.specs.Refusals.{log-checks, plain-refusal, logged-refusal}
 use Rattle.lookup.proofs.Accepted.{Taken, accepted, accepted-bounded}
+use Rattle.lookup.proofs.Refused.{scratch-accepted, plain-case, logged-plain}
 use Rattle.lookup.proofs.Promises.{taken-right}
 use Rattle.calls.specs.Reply.{called, left, plain-reply, plain-scratch, logged-reply, logged-scratch, logged-log}
-use Rattle.call_checks.proofs.Checking.{plain-case, logged-plain}
 
 called-refused : (j k share count : ℕ) → j ≡ k → (j ≡ 0 → ⊥) → record { refusal = j; share = 0; count = 0 } ≡ called k share count
 unfolding called
@@ -71,8 +71,7 @@ module _ (c : Case) (table scratch : List ℕ) (j : ℕ) (told : j ≡ plain-ref
   plain-table z = taken z .1 .table .long
 
   pub plain-room : j ≡ 0 → scratch-length (c .method) (c .n) ≤ length scratch
-  unfolding scratch-checks
-  plain-room z = ltb-false _ _ (passed _ 12 _ (plain-case c table scratch (sym told ∙ z) .1) .0)
+  plain-room z = scratch-accepted c scratch (plain-case c table scratch (sym told ∙ z) .1) .room
 
 module _ (c : Case) (table scratch lent : List ℕ) (j : ℕ) (told : j ≡ logged-refusal c table scratch lent) where
   pub logged-refused : (j ≡ 0 → ⊥) → record { refusal = j; share = 0; count = 0 } ≡ logged-reply c table scratch lent

@@ -12,9 +12,9 @@ use Rattle.lookup.specs.Call.{answer}
 use Rattle.lookup.specs.Promises.{Answer-small}
 use Rattle.lookup.specs.Refusals.{method-checks, mask-checks, scratch-checks, case-checks, plain-refusal}
 use Rattle.lookup.proofs.Accepted.{accepted}
+use Rattle.lookup.proofs.Refused.{plain-case}
 use Rattle.lookup.proofs.Promises.{answer-small}
 use Rattle.calls.specs.Reply.{called, plain-reply}
-use Rattle.call_checks.proofs.Checking.{plain-case}
 
 module _ (c : Case) (table scratch : List ℕ) where
   number-small : plain-refusal c table scratch ≤ 255

@@ -1,5 +1,6 @@
-// What C links: the plain call as one 16-bit number, refusal × 256 + share. include/cippazhey.h declares it.
+// What C links: the plain call as one 16-bit number, refusal × 256 + share, and the clearing of a buffer. include/cippazhey.h declares both.
 ghost use mathlib.Core.Path.{_≡_};
+ghost use lib.ListN.{length, replicate};
 ghost use Rattle.calls.specs.Reply.{case-from, plain-reply, plain-scratch};
 ghost use Rattle.cippazhey.specs.Export.{exported};
 
@@ -24,4 +25,11 @@ pub extern "C" fn cippazhey_plain_call(
 {
     let called = calls::plain_call(method, n, m, x0, r1, r2, s1, s2, r3, b, table, scratch);
     (called.refusal * 256 + called.share) as u16
+}
+
+#[no_mangle]
+pub extern "C" fn cippazhey_clear(buffer: &mut [u8])
+    ensures { λ _. ⌜ now (buffer .exit) ≡ replicate (length (now (buffer .entry))) 0 ⌝ }
+{
+    buffers::clear(buffer);
 }

@@ -4,6 +4,7 @@ pub mod Methods
 pub mod Entry
 pub mod Places
 pub mod Accepted
+pub mod Refused
 pub mod Second
 pub mod Third
 pub mod Layouts

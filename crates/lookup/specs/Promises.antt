@@ -1,9 +1,9 @@
 -- What is promised of an accepted lookup. Each is a type; its proof stands in proofs/Promises.antt.
 use mathlib.Core.Path.{_≡_}
 use mathlib.Core.Bool.{false}
-use mathlib.Core.List.{List, map}
+use mathlib.Core.List.{List, _++_, map}
 use Prim.Native.Nat.{ℕ, _+_, _*_, _^_, _≤_, _<_}
-use lib.ListN.{length, drop}
+use lib.ListN.{length, take, drop, replicate}
 use Rattle.bits.specs.Xor.{_⊕_}
 use Rattle.refusals.specs.Tests.{any-from}
 use Rattle.table.specs.Balanced.{at}
@@ -14,7 +14,7 @@ use Rattle.lookup.specs.Layout.{lines}
 use Rattle.lookup.specs.Row.{Row}
 use Rattle.lookup.specs.Methods.{method-of}
 use Rattle.lookup.specs.Call.{answer, scratch-after, log-of, log-length, scratch-length}
-use Rattle.lookup.specs.Refusals.{case-refusal}
+use Rattle.lookup.specs.Refusals.{case-refusal, plain-refusal}
 
 -- the answer joined with both output masks is the table's entry for the input
 unfoldable pub Answer-right : Type 0
@@ -36,6 +36,17 @@ unfoldable pub Rest-kept : Type 0
 Rest-kept =
     (table scratch : List ℕ) (c : Case) → case-refusal c table ≡ 0 →
     drop (scratch-length (c .method) (c .n)) (scratch-after c table scratch) ≡ drop (scratch-length (c .method) (c .n)) scratch
+
+-- an accepted call began with zeros in the scratch bytes that the method needs
+unfoldable pub Began-clean : Type 0
+Began-clean =
+    (table scratch : List ℕ) (c : Case) → plain-refusal c table scratch ≡ 0 →
+    take (scratch-length (c .method) (c .n)) scratch ≡ replicate (scratch-length (c .method) (c .n)) 0
+
+-- a scratch that begins with as many zeros is never refused, whatever stands behind them: what is refused is the case
+unfoldable pub Zeros-taken : Type 0
+Zeros-taken =
+    (table rest : List ℕ) (c : Case) → plain-refusal c table (replicate (scratch-length (c .method) (c .n)) 0 ++ rest) ≡ case-refusal c table
 
 -- the lengths that document 01 gives
 unfoldable pub Lengths-right : Type 0

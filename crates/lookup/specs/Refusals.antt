@@ -1,9 +1,9 @@
 -- Refusals of the logged and the plain call, as lists in their order.
-use mathlib.Core.Bool.{not}
+use mathlib.Core.Bool.{Bool, not}
 use mathlib.Core.List.{List, [], _∷_, _++_}
 use Prim.Native.Nat.{ℕ, _^_}
 use lib.Dec.{ltb}
-use lib.ListN.{length}
+use lib.ListN.{length, take}
 use Rattle.refusals.specs.Checks.{Check, _when_, first-of}
 use Rattle.refusals.specs.Tests.{any-from}
 use Rattle.table.specs.Refusals.{table-checks}
@@ -24,9 +24,16 @@ mask-checks c =
     ∷ 12 when (ltb (method-of (c .method) .b-most) (c .b))
     ∷ []
 
--- 13
+-- a byte among the first so many is not zero; those behind them are not looked at
+unfoldable pub dirty : (first : ℕ) → (scratch : List ℕ) → Bool
+dirty first scratch = any-from 1 (take first scratch)
+
+-- 13, 19
 unfoldable pub scratch-checks : Case → (scratch : List ℕ) → List Check
-scratch-checks c scratch = 13 when (ltb (length scratch) (scratch-length (c .method) (c .n))) ∷ []
+scratch-checks c scratch =
+    13 when (ltb (length scratch) (scratch-length (c .method) (c .n)))
+    ∷ 19 when (dirty (scratch-length (c .method) (c .n)) scratch)
+    ∷ []
 
 -- 14
 unfoldable pub log-checks : Case → (lent : List ℕ) → List Check

@@ -36,11 +36,11 @@ pub fn b_most(method: u32) -> u32
 }
 
 // How many bytes of scratch and how many log entries the method needs. The width has been checked, so these have a `requires`.
-pub fn scratch_length(method: u32, n: u32) -> usize
+pub fn scratch_length(method: u32, n: u32) -> u16
     requires { ⌜ n ≤ 8 ⌝ }
     ensures { λ r. ⌜ r ≡ scratch-length method n ⌝ }
 {
-    let inputs = bits::power(n) as usize;
+    let inputs = bits::power(n) as u16;
     if method == 2 {
         return inputs;
     }

@@ -1,5 +1,5 @@
 -- The laws of a list of checks, as code that goes through it needs them.
-use mathlib.Core.Path.{_≡_, refl, sym}
+use mathlib.Core.Path.{_≡_, refl, sym, ap}
 use mathlib.Core.Bool.{Bool, true, false, _&&_, cond, and-eq-true-iff}
 use mathlib.Core.List.{List, [], _∷_, _++_}
 use Prim.Native.Nat.{ℕ, suc, _≤_, _<_}
@@ -64,6 +64,12 @@ goes-both (c ∷ cs) ds h e f =
     let given = and-eq-true-iff (ltb 0 (c .number)) (numbered cs) .0 h in
     let here = past (c .applies) (c .number) (first-of cs) (ltb-true 0 (c .number) (given .0)) (sym e) in
     rw (here .0) (goes-both cs ds (given .1) (sym (here .1)) f)
+
+-- checks behind a list that refuse nothing change nothing
+pub none-behind : (cs ds : List Check) → first-of ds ≡ 0 → first-of (cs ++ ds) ≡ first-of cs
+unfolding first-of
+none-behind [] ds e = e
+none-behind (c ∷ cs) ds e = ap (cond (c .applies) (c .number)) (none-behind cs ds e)
 
 -- no check has a number above the most, and so no number above it is handed back
 unfoldable pub up-to : (most : ℕ) → List Check → Bool

@@ -1,12 +1,13 @@
 -- The laws of the tests.
-use mathlib.Core.Path.{_≡_, refl, sym, _∙_}
-use mathlib.Core.Bool.{Bool, true, false, _||_, true≢false, or-true}
-use mathlib.Core.List.{List, [], _∷_}
-use Prim.Native.Nat.{ℕ, _+_, _^_, _≤_, _<_}
+use mathlib.Core.Path.{_≡_, refl, sym, ap, _∙_}
+use mathlib.Core.Bool.{Bool, true, false, _||_, true≢false, or-true, or-assoc}
+use mathlib.Core.List.{List, [], _∷_, _++_}
+use Prim.Native.Nat.{ℕ, zero, suc, _+_, _^_, _≤_, _<_}
 use native.Mathlib.Numerals.{add-one}
+use native.Mathlib.Omega.{arith}
 use borrow.Author.Tests.{leb-false, ltb-false, le-leb, lt-leb, le-ltb}
 use lib.Dec.{leb, ltb}
-use lib.ListN.{length, getD, drop, drop-of-length-le}
+use lib.ListN.{length, getD, drop, replicate, drop-of-length-le}
 use lib.Seq.{drop-cons}
 use Rattle.refusals.specs.Tests.{outside, any-from}
 
@@ -75,3 +76,22 @@ some-here least x xs h = rw (le-leb least x h)
 pub some-later : (least x : ℕ) (xs : List ℕ) → any-from least xs ≡ true → any-from least (x ∷ xs) ≡ true
 unfolding any-from
 some-later least x xs e = rw e (or-true (leb least x))
+
+-- a list behind a list
+pub any-either : (least : ℕ) (xs ys : List ℕ) → any-from least (xs ++ ys) ≡ (any-from least xs || any-from least ys)
+unfolding any-from
+any-either least [] ys = refl
+any-either least (x ∷ xs) ys = ap (λ t. leb least x || t) (any-either least xs ys) ∙ sym (or-assoc (leb least x) _ _)
+
+-- none is nonzero: all are zeros
+pub zeros-none : (k : ℕ) → any-from 1 (replicate k 0) ≡ false
+unfolding any-from
+zeros-none zero = refl
+zeros-none (suc k) = zeros-none k
+
+pub none-nonzero : (xs : List ℕ) → any-from 1 xs ≡ false → xs ≡ replicate (length xs) 0
+none-nonzero [] e = refl
+none-nonzero (x ∷ xs) e =
+    let below = all-below 1 x xs e in
+    let here : x ≡ 0 = omega (arith, below .0) in
+    rw here (ap (λ ys. 0 ∷ ys) (none-nonzero xs (below .1)))

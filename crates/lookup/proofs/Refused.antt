@@ -1,0 +1,75 @@
+-- The lists of checks of both calls, part by part: what an accepted call has passed, and what a clean scratch is.
+use mathlib.Core.Path.{_≡_, refl, sym, ap, _∙_}
+use mathlib.Core.Bool.{true, false}
+use mathlib.Core.List.{List, _++_}
+use Prim.Native.Nat.{ℕ, _≤_}
+use borrow.Author.Tests.{ltb-false, le-ltb}
+use lib.ListN.{length, take, replicate, length-replicate}
+use lib.Seq.{length-take-le, take-at}
+use Rattle.refusals.specs.Checks.{first-of}
+use Rattle.refusals.proofs.Checks.{passed, goes, none-applies, numbered, passed-both, none-behind}
+use Rattle.refusals.proofs.Tests.{zeros-none, none-nonzero}
+use Rattle.table.specs.Refusals.{table-checks}
+use Rattle.lookup.specs.declared.Case.{Case}
+use Rattle.lookup.specs.Call.{scratch-length, log-length}
+use Rattle.lookup.specs.Refusals.{method-checks, mask-checks, dirty, scratch-checks, log-checks}
+use Rattle.lookup.specs.Refusals.{case-checks, case-refusal, plain-refusal, logged-refusal}
+
+-- zeros are not dirty, whatever stands behind them
+pub zeros-clean : (k : ℕ) (rest : List ℕ) → dirty k (replicate k 0 ++ rest) ≡ false
+unfolding dirty
+zeros-clean k rest = rw (take-at (replicate k 0) rest k (length-replicate k 0)) (zeros-none k)
+
+-- and what is not dirty is zeros
+pub clean-zeros : (k : ℕ) (scratch : List ℕ) → k ≤ length scratch → dirty k scratch ≡ false → take k scratch ≡ replicate k 0
+unfolding dirty
+clean-zeros k scratch h e = none-nonzero (take k scratch) e ∙ ap (λ i. replicate i 0) (length-take-le k scratch h)
+
+module _ (c : Case) (scratch : List ℕ) where
+  -- what the checks of the scratch ask, and nothing else
+  pub record Clean : Type 0 where
+    pub room : scratch-length (c .method) (c .n) ≤ length scratch
+    pub clean : dirty (scratch-length (c .method) (c .n)) scratch ≡ false
+
+  pub scratch-accepted : first-of (scratch-checks c scratch) ≡ 0 → Clean
+  unfolding scratch-checks
+  scratch-accepted e =
+      let long = passed _ 12 _ e in
+      record { room = ltb-false _ _ (long .0); clean = passed _ 18 _ (long .1) .0 }
+
+  pub scratch-not-refused : Clean → first-of (scratch-checks c scratch) ≡ 0
+  unfolding scratch-checks
+  scratch-not-refused k = sym (goes 13 _ (le-ltb _ _ (k .room)) (goes 19 _ (k .clean) none-applies))
+
+-- and the check of the log
+pub log-not-refused : (c : Case) (lent : List ℕ) → log-length (c .method) (c .n) ≤ length lent → first-of (log-checks c lent) ≡ 0
+unfolding log-checks
+log-not-refused c lent h = sym (goes 14 _ (le-ltb _ _ h) none-applies)
+
+module _ (c : Case) (table : List ℕ) where
+  pub case-numbered : numbered (case-checks c table) ≡ true
+  unfolding numbered case-checks method-checks table-checks mask-checks
+  case-numbered = refl
+
+  module _ (scratch : List ℕ) where
+    pub plain-numbered : numbered (case-checks c table ++ scratch-checks c scratch) ≡ true
+    unfolding numbered case-checks method-checks table-checks mask-checks scratch-checks
+    plain-numbered = refl
+
+    pub plain-case : plain-refusal c table scratch ≡ 0 → (case-refusal c table ≡ 0) × (first-of (scratch-checks c scratch) ≡ 0)
+    unfolding case-refusal plain-refusal
+    plain-case e = passed-both (case-checks c table) (scratch-checks c scratch) case-numbered e
+
+    pub logged-plain : (lent : List ℕ) → logged-refusal c table scratch lent ≡ 0
+        → (plain-refusal c table scratch ≡ 0) × (first-of (log-checks c lent) ≡ 0)
+    unfolding plain-refusal logged-refusal
+    logged-plain lent e = passed-both (case-checks c table ++ scratch-checks c scratch) (log-checks c lent) plain-numbered e
+
+    -- a scratch and a log that are not refused leave the number to the case
+    pub plain-by-case : Clean c scratch → plain-refusal c table scratch ≡ case-refusal c table
+    unfolding case-refusal plain-refusal
+    plain-by-case k = none-behind (case-checks c table) (scratch-checks c scratch) (scratch-not-refused c scratch k)
+
+    pub logged-by-plain : (lent : List ℕ) → first-of (log-checks c lent) ≡ 0 → logged-refusal c table scratch lent ≡ plain-refusal c table scratch
+    unfolding plain-refusal logged-refusal
+    logged-by-plain lent e = none-behind (case-checks c table ++ scratch-checks c scratch) (log-checks c lent) e
