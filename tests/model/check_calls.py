@@ -1,5 +1,5 @@
-# Holds the model's logged and plain call, its logs and its counts to the scope document. Each group yields a name, what the model says
-# and what it should say.
+# Holds the model's logged and plain call, its clearing, its logs and its counts to the documents: the scope (01), and the request for
+# clean scratch (02, §4). Each group yields a name, what the model says and what it should say.
 import model
 from document import KINDS, LENGTHS, TABLE_A
 from model import Case
@@ -9,19 +9,20 @@ P3 = P2._replace(method=3, b=1)
 P6 = P2._replace(m=1, s1=1, s2=0)
 
 
-# The refusal, the answer and the scratch of a logged call, with lengths that suffice where none are given.
-def outcome(case, table, scratch_length=4, log_entries=46):
-    refusal, answer, _, scratch, _ = model.logged_call(case, table, [9] * scratch_length, [9] * log_entries)
+# The refusal, the answer and the scratch of a logged call, with buffers that suffice at n = 2 where none are given. Bench calls begin
+# with zeros.
+def outcome(case, table, scratch=(0, 0, 0, 0), log_entries=46):
+    refusal, answer, _, scratch, _ = model.logged_call(case, table, scratch, [9] * log_entries)
     return refusal, answer, scratch
 
 
-def refusal_of(case, table, **lengths):
-    return outcome(case, table, **lengths)[0]
+def refusal_of(case, table, **buffers):
+    return outcome(case, table, **buffers)[0]
 
 
 def bench_sheet():
     p1 = Case(2, 1, 1, 0, 1, 0, 0, 1, 1, 0)
-    yield "P1", outcome(p1, [1, 0], scratch_length=2)[:2], (0, 1)
+    yield "P1", outcome(p1, [1, 0], scratch=[0, 0])[:2], (0, 1)
     yield "P2", outcome(P2, TABLE_A), (0, 2, [3, 1, 2, 0])
     yield "P3", outcome(P3, TABLE_A), (0, 2, [0, 0, 1, 0])
     yield "P4 refused", refusal_of(P2._replace(x0=4), TABLE_A), 10
@@ -31,8 +32,8 @@ def bench_sheet():
     for secret in range(4):
         accepted = {refusal_of(case, [0, 1, 1, 0]) for case in model.choices(2, 2, 1, secret)}
         yield f"P6 accepted at {secret}", accepted, {0}
-    yield "P7 refused", refusal_of(P2, TABLE_A, scratch_length=3), 13
-    yield "P7 accepted", refusal_of(P2, TABLE_A, scratch_length=4), 0
+    yield "P7 refused", refusal_of(P2, TABLE_A, scratch=[0] * 3), 13
+    yield "P7 accepted", refusal_of(P2, TABLE_A, scratch=[0] * 4), 0
     yield "P8 refused", refusal_of(P2, TABLE_A, log_entries=33), 14
     yield "P8 accepted", refusal_of(P2, TABLE_A, log_entries=34), 0
     yield "P9 method 2", refusal_of(P2._replace(b=1), TABLE_A), 12
@@ -43,6 +44,18 @@ def bench_sheet():
         yield f"P12 at {secret}", model.pair_counts([1, 0], 2, 1, 1, secret, 0, 21), each_eight
 
 
+# P2 on scratch that is not clean, beside P7 and P8.
+def dirty_bench_calls():
+    yield "P2, byte 0 dirty", outcome(P2, TABLE_A, scratch=[1, 0, 0, 0]), (19, 0, [1, 0, 0, 0])
+    yield "P2, byte 3 dirty", outcome(P2, TABLE_A, scratch=[0, 0, 0, 1]), (19, 0, [0, 0, 0, 1])
+    yield "P2, byte 4 dirty", outcome(P2, TABLE_A, scratch=[0, 0, 0, 0, 1]), (0, 2, [3, 1, 2, 0, 1])
+    yield "P7 refused, dirty", outcome(P2, TABLE_A, scratch=[1, 1, 1]), (13, 0, [1, 1, 1])
+    yield "P8 refused, dirty", outcome(P2, TABLE_A, scratch=[1, 0, 0, 0], log_entries=33), (19, 0, [1, 0, 0, 0])
+    _, _, left = outcome(P2, TABLE_A)
+    yield "P2 again", outcome(P2, TABLE_A, scratch=left), (19, 0, left)
+    yield "P2 again, cleared", outcome(P2, TABLE_A, scratch=model.clear(left)), (0, 2, left)
+
+
 def lengths():
     for method, by_width in LENGTHS.items():
         for n, figure in by_width.items():
@@ -50,8 +63,8 @@ def lengths():
             name = f"length of method {method} at n = {n}"
             yield name, model.log_length(method, n), figure
             yield name + ", logged", model.logged_call(case, table, [0] * 256, [0] * 2314)[2], figure
-            yield name + ", just enough", refusal_of(case, table, scratch_length=2**n, log_entries=figure), 0
-            yield name + ", one less", refusal_of(case, table, scratch_length=2**n, log_entries=figure - 1), 14
+            yield name + ", just enough", refusal_of(case, table, scratch=[0] * 2**n, log_entries=figure), 0
+            yield name + ", one less", refusal_of(case, table, scratch=[0] * 2**n, log_entries=figure - 1), 14
 
 
 # The values of a log, in the order of the document's lists of kinds.
@@ -82,34 +95,55 @@ def whole_log(case, table):
     return [kind * 256 + value for kind, value in zip(head + turn * 2**case.n + end, values, strict=True)]
 
 
-# What every accepted case must come to: S[x] with both output masks, the whole log, the same scratch in the plain call, untouched ends.
-def answers():
+# Accepted cases under both methods at small widths, every choice of masks for a secret each: the case, its table and the share S[x] with
+# both output masks.
+def accepted_cases():
     tables = {(1, 1): [1, 0], (2, 1): [0, 1, 1, 0], (2, 2): TABLE_A}
     for method, n, m, secret in ((2, 1, 1, 0), (3, 1, 1, 1), (2, 2, 1, 3), (3, 2, 1, 2), (2, 2, 2, 1), (3, 2, 2, 3)):
         table = tables[n, m]
         for case in model.choices(method, n, m, secret):
-            share = table[secret] ^ case.s1 ^ case.s2
-            log = whole_log(case, table)
-            refusal, answer, count, scratch, left = model.logged_call(case, table, [7] * 6, [7] * 50)
-            yield (case, "logged"), (refusal, answer, count), (0, share, len(log))
-            yield (case, "log"), left, log + [7] * (50 - len(log))
-            yield (case, "end of the scratch"), scratch[2**n :], [7] * (6 - 2**n)
-            yield (case, "plain"), model.plain_call(case, table, [7] * 6), (0, share, 0, scratch)
-            yield (case, "exported"), model.exported_call(case, table, [7] * 6), (share, scratch)
+            yield case, table, table[secret] ^ case.s1 ^ case.s2
+
+
+# What every accepted case must come to: its share, the whole log, the same scratch in the plain call, untouched ends.
+def answers():
+    for case, table, share in accepted_cases():
+        end = [7] * (6 - 2**case.n)
+        lent, log = [0] * 2**case.n + end, whole_log(case, table)
+        refusal, answer, count, scratch, left = model.logged_call(case, table, lent, [7] * 50)
+        yield (case, "logged"), (refusal, answer, count), (0, share, len(log))
+        yield (case, "log"), left, log + [7] * (50 - len(log))
+        yield (case, "end of the scratch"), scratch[2**case.n :], end
+        yield (case, "plain"), model.plain_call(case, table, lent), (0, share, 0, scratch)
+        yield (case, "exported"), model.exported_call(case, table, lent), (share, scratch)
+
+
+# No call leaves its scratch clean: method 2 leaves every value below 2^m in it, and method 3 both b and 1 - b. So the same call on what it
+# left is refused, and on that cleared it answers again.
+def repeats():
+    for case, table, share in accepted_cases():
+        log = [7] * 50
+        first = model.logged_call(case, table, [0] * 2**case.n, log)
+        left = first[3]
+        yield (case, "again, logged"), model.logged_call(case, table, left, log), (19, 0, 0, left, log)
+        yield (case, "again, plain"), model.plain_call(case, table, left), (19, 0, 0, left)
+        yield (case, "cleared, logged"), model.logged_call(case, table, model.clear(left), log), first
+        yield (case, "cleared, plain"), model.plain_call(case, table, model.clear(left)), (0, share, 0, left)
 
 
 # Scratch byte a ⊕ r' is the masked entry at x0 ⊕ a, so byte c is the one at x ⊕ r3 ⊕ c. Under method 3 byte r3 alone is b.
 def scratches():
     for case in model.choices(2, 2, 2, 3):
         wanted = [TABLE_A[3 ^ case.r3 ^ c] ^ case.s1 ^ case.s2 for c in range(4)]
-        yield (case, "scratch"), model.plain_call(case, TABLE_A, [9] * 4)[3], wanted
+        yield (case, "scratch"), model.plain_call(case, TABLE_A, [0] * 4)[3], wanted
     for case in model.choices(3, 2, 2, 3):
         wanted = [case.b if c == case.r3 else 1 - case.b for c in range(4)]
-        yield (case, "scratch"), model.plain_call(case, TABLE_A, [9] * 4)[3], wanted
+        yield (case, "scratch"), model.plain_call(case, TABLE_A, [0] * 4)[3], wanted
 
 
-# A call that is accepted at n = 2, m = 1 under both methods: its numbers, its table, and the lengths of scratch and log.
-FINE = dict(method=2, n=2, m=1, x0=3, r1=3, r2=3, s1=1, s2=1, r3=3, b=0, table=[0, 1, 1, 0], scratch=4, log=46)
+# A call that is accepted at n = 2, m = 1 under both methods: its numbers, its table, its scratch with an end that is not looked at, and
+# the length of its log.
+FINE = dict(method=2, n=2, m=1, x0=3, r1=3, r2=3, s1=1, s2=1, r3=3, b=0, table=[0, 1, 1, 0], scratch=[0, 0, 0, 0, 7], log=46)
 # Faults of it, in the order of the checks: the refusal, what is faulty and what stands there.
 FAULTS = [
     *((2, "method", value) for value in (0, 1, 4, 258, 2**32 - 1)),
@@ -121,30 +155,72 @@ FAULTS = [
     *((10, name, value) for name in ("x0", "r1", "r2", "r3") for value in (4, 256)),
     *((11, name, value) for name in ("s1", "s2") for value in (2, 256)),
     *((12, "b", value) for value in (2, 256)),
-    *((13, "scratch", value) for value in (0, 3)),
+    *((13, "scratch", value) for value in ([], [0, 0, 0], [1, 0, 0], [9, 9, 9])),
+    *((19, "scratch", [value, 0, 0, 0]) for value in (1, 2, 128, 255)),
+    *((19, "scratch", [0, 0, 0, value, 0]) for value in (1, 2, 128, 255)),
+    *((19, "scratch", value) for value in ([0, 1, 0, 0], [0, 0, 255, 0], [9, 9, 9, 9], [1, 2, 3, 4, 5, 6])),
     *((14, "log", value) for value in (0, 33)),
+]
+# What stands just inside: the call is still accepted.
+NEIGHBOURS = [
+    *(("scratch", [0, 0, 0, 0, *end]) for end in ([], [1], [255], [0, 1], [255, 255, 255])),
+    *(("log", value) for value in (46, 47)),
 ]
 
 
 # What the calls say of such a call: the first refusal, all else 0, and nothing written.
 def refused(call, refusal):
-    *numbers, table, scratch_length, log_entries = call.values()
-    case, scratch, log = Case(*numbers), list(range(scratch_length)), list(range(log_entries))
+    *numbers, table, scratch, log_entries = call.values()
+    case, log = Case(*numbers), list(range(log_entries))
     yield (call, "logged"), model.logged_call(case, table, scratch, log), (refusal, 0, 0, scratch, log)
-    if refusal < 14:
+    if refusal != 14:
         yield (call, "plain"), model.plain_call(case, table, scratch), (refusal, 0, 0, scratch)
         yield (call, "exported"), model.exported_call(case, table, scratch), (refusal * 256, scratch)
 
 
-# Each fault, and any two in different places.
+# Each fault, and any two in different places: the one that stands first in the order is returned, which is not always the smaller number.
 def refusals():
     for method in (2, 3):
         fine = {**FINE, "method": method}
-        for refusal, place, value in FAULTS:
+        for at, (refusal, place, value) in enumerate(FAULTS):
             yield from refused({**fine, place: value}, refusal)
-            for other, second, value2 in FAULTS:
-                if other >= refusal and second != place:
+            for _, second, value2 in FAULTS[at:]:
+                if second != place:
                     yield from refused({**fine, place: value, second: value2}, refusal)
+
+
+def neighbours():
+    for method in (2, 3):
+        for place, value in NEIGHBOURS:
+            *numbers, table, scratch, log_entries = {**FINE, "method": method, place: value}.values()
+            case, name = Case(*numbers), f"{place} {value}, method {method}"
+            yield name + ", logged", model.logged_call(case, table, scratch, [9] * log_entries)[:3], (0, 0, LENGTHS[method][2])
+            yield name + ", plain", model.plain_call(case, table, scratch)[:3], (0, 0, 0)
+            yield name + ", exported", model.exported_call(case, table, scratch)[0], 0
+
+
+# At every width, each of the first 2^n bytes alone is refused where it is not zero, and the byte behind them is accepted.
+def dirty_places():
+    for n in range(1, 9):
+        for method in (2, 3):
+            case, table, log = Case(method, n, 1, 0, 0, 0, 0, 0, 0, 0), [0, 1] * 2 ** (n - 1), [9] * model.log_length(method, n)
+            for place in range(2**n + 1):
+                scratch = [0] * (2**n + 1)
+                scratch[place] = 1 + place % 255
+                refusal = 0 if place == 2**n else 19
+                name = f"byte {place} at n = {n}, method {method}"
+                yield name + ", plain", model.plain_call(case, table, scratch)[0], refusal
+                yield name + ", logged", model.logged_call(case, table, scratch, log)[0], refusal
+
+
+# Buffers of any length and contents, the empty one too.
+def clearing():
+    for length in (0, 1, 2, 255, 256, 257, 600):
+        for value in (0, 1, 128, 255):
+            yield f"{length} bytes of {value} cleared", model.clear([value] * length), [0] * length
+        counted = [place % 256 for place in range(length)]
+        yield f"{length} counted bytes cleared", model.clear(counted), [0] * length
+        yield f"{length} counted bytes back to front cleared", model.clear(counted[::-1]), [0] * length
 
 
 # At every pair of widths, what is just inside is accepted.
@@ -181,4 +257,18 @@ def leaks():
 
 
 # The quick ones come first.
-GROUPS = (lengths, refusals, widths, counts, leaks, bench_sheet, scratches, answers)
+GROUPS = (
+    lengths,
+    clearing,
+    neighbours,
+    refusals,
+    widths,
+    counts,
+    leaks,
+    bench_sheet,
+    dirty_bench_calls,
+    dirty_places,
+    scratches,
+    answers,
+    repeats,
+)

@@ -1,4 +1,5 @@
-# The calls, the logs, the counts and the bench print in plain Python, written from the scope document alone.
+# The calls, the logs, the counts and the bench print in plain Python, written from the documents alone: the scope (01), and the request
+# for clean scratch (02, §4).
 # It shares nothing with the proved code, so that a test which compares the two can find a fault in either.
 # Numbers are integers from 0 on; a table, a scratch buffer and rows are lists of bytes; a log is a list of 16-bit entries.
 import itertools
@@ -106,6 +107,8 @@ def plain_refusal(case, table, scratch):
         return refusal
     if len(scratch) < 2**case.n:
         return 13
+    if any(byte != 0 for byte in scratch[: 2**case.n]):
+        return 19
     return 0
 
 
@@ -186,6 +189,11 @@ def plain_call(case, table, scratch):
 def exported_call(case, table, scratch):
     refusal, share, _, scratch = plain_call(case, table, scratch)
     return refusal * 256 + share, scratch
+
+
+# A whole buffer set to zero, which makes a scratch fit for the next call.
+def clear(buffer):
+    return [0] * len(buffer)
 
 
 # Counting over the choices of masks.
