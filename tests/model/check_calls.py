@@ -158,7 +158,7 @@ FAULTS = [
     *((13, "scratch", value) for value in ([], [0, 0, 0], [1, 0, 0], [9, 9, 9])),
     *((19, "scratch", [value, 0, 0, 0]) for value in (1, 2, 128, 255)),
     *((19, "scratch", [0, 0, 0, value, 0]) for value in (1, 2, 128, 255)),
-    *((19, "scratch", value) for value in ([0, 1, 0, 0], [0, 0, 255, 0], [9, 9, 9, 9], [1, 2, 3, 4, 5, 6])),
+    *((19, "scratch", value) for value in ([0, 1, 0, 0], [0, 0, 255, 0], [128, 0, 0, 128], [9, 9, 9, 9], [1, 2, 3, 4, 5, 6])),
     *((14, "log", value) for value in (0, 33)),
 ]
 # What stands just inside: the call is still accepted.
