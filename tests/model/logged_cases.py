@@ -1,8 +1,9 @@
 # The cases of the logged call for the program test_logged_calls, and what the model says of each.
 # A case is a record of 320 bytes: the call's ten numbers as little-endian u32 in the order of its parameters, then as u16 the
-# lengths of the table, the scratch and the log that are lent, and from byte 46 the table. Scratch and log are lent filled, so
-# that what a call writes and what it leaves can both be seen. The answers are one line a record: refusal, share and count,
-# then the lent scratch and log after the call, whole where n is at most 2, and as a checksum each where it is larger.
+# lengths of the table, the scratch and the log that are lent, and the places from which and up to which, not including it, the
+# scratch is lent dirty, and from byte 50 the table. The rest of the scratch is lent as zeros and the log filled, so that what a
+# call writes and what it leaves can both be seen. The answers are one line a record: refusal, share and count, then the lent
+# scratch and log after the call, whole where n is at most 2, and as a checksum each where it is larger.
 import random
 import struct
 from collections import namedtuple
@@ -10,16 +11,17 @@ from collections import namedtuple
 import model
 
 TOP = 2**32 - 1
-# What the program fills scratch and log with, and the most that it can lend.
-FILLED_BYTE, FILLED_ENTRY = 165, 42405
+# What the program writes into dirty scratch, what it fills the log with, and the most that it can lend.
+DIRTY_BYTE, FILLED_ENTRY = 165, 42405
 LONGEST_SCRATCH, LONGEST_LOG = 300, 2400
 # Each comes into a width when it is cut to 8 or 16 bits, or is the largest of its type.
 WIDE_NUMBERS = (256, 258, 2**16, TOP)
 INPUTS = ("x0", "r1", "r2", "r3")
 OUTPUTS = ("s1", "s2")
 
-# A call: its numbers, its table, and the lengths of scratch and log.
-Call = namedtuple("Call", "case table scratch log")
+# A call: its numbers, its table, the lengths of scratch and log, and the range of the scratch's dirty places, of which those below its
+# length count.
+Call = namedtuple("Call", "case table scratch log dirty")
 
 chance = random.Random()
 
@@ -34,13 +36,17 @@ def balanced_table(n, m):
     return table
 
 
-# A call that is accepted, with buffers that just suffice.
+# A call with buffers that just suffice. The scratch is clean as far as the call looks at it, and dirty behind.
+def with_buffers(case, table):
+    return Call(case, table, 2**case.n, model.log_length(case.method, case.n), range(2**case.n, LONGEST_SCRATCH))
+
+
 def accepted(method, n, m=None):
     m = m or chance.randint(1, n)
     x0, r1, r2, r3 = (below(n) for _ in INPUTS)
     b = below(1) if method == 3 else 0
     case = model.Case(method, n, m, x0, r1, r2, below(m), below(m), r3, b)
-    return Call(case, balanced_table(n, m), 2**n, model.log_length(method, n))
+    return with_buffers(case, balanced_table(n, m))
 
 
 def with_numbers(call, **numbers):
@@ -58,11 +64,20 @@ def roomier(call):
     return call._replace(scratch=call.scratch + chance.randint(1, 9), log=call.log + chance.randint(1, 9))
 
 
+def dirty_at(call, place):
+    return call._replace(dirty=range(place, place + 1))
+
+
+# All of the scratch dirty: where something that is checked before it is at fault, a write of zeros shows too.
+def dirty(call):
+    return call._replace(dirty=range(LONGEST_SCRATCH))
+
+
 def bench_sheet():
     table_a = [2, 0, 3, 1]
-    p1 = Call(model.Case(2, 1, 1, 0, 1, 0, 0, 1, 1, 0), [1, 0], 2, 22)
-    p2 = Call(model.Case(2, 2, 2, 0, 1, 2, 3, 0, 2, 0), table_a, 4, 34)
-    p3 = Call(model.Case(3, 2, 2, 0, 1, 2, 3, 0, 2, 1), table_a, 4, 46)
+    p1 = with_buffers(model.Case(2, 1, 1, 0, 1, 0, 0, 1, 1, 0), [1, 0])
+    p2 = with_buffers(model.Case(2, 2, 2, 0, 1, 2, 3, 0, 2, 0), table_a)
+    p3 = with_buffers(model.Case(3, 2, 2, 0, 1, 2, 3, 0, 2, 1), table_a)
     p6 = with_numbers(p2, m=1, s1=1)
     yield from (p1, p2, p3)
     yield from map(roomier, (p1, p2, p3))
@@ -73,6 +88,8 @@ def bench_sheet():
     yield from (p2._replace(log=33), p2._replace(log=34))
     yield from (with_numbers(p2, b=1), with_numbers(p3, b=2))
     yield with_numbers(p2, method=4, n=9)
+    yield from (dirty_at(p2, 0), dirty_at(p2, 3), dirty_at(p2._replace(scratch=5), 4))
+    yield from (dirty(p2._replace(scratch=3)), dirty_at(p2._replace(log=33), 0))
 
 
 # Both methods at every pair of widths, one of them with longer buffers.
@@ -87,17 +104,17 @@ def every_width():
 
 def no_methods_and_widths():
     for method in (0, 1, 4, 258, 2**16 + 3, TOP):
-        yield with_numbers(accepted(3, 2), method=method)
+        yield dirty(with_numbers(accepted(3, 2), method=method))
     for width in (0, 9, 33, 40, 257, TOP):
-        yield with_numbers(accepted(2, 3), n=width)
-        yield with_numbers(accepted(3, 3), m=width)
+        yield dirty(with_numbers(accepted(2, 3), n=width))
+        yield dirty(with_numbers(accepted(3, 3), m=width))
     for n in range(1, 9):
-        yield with_numbers(accepted(2, n), m=n + 1)
+        yield dirty(with_numbers(accepted(2, n), m=n + 1))
 
 
 def table_lengths():
     for n in range(1, 9):
-        call = roomier(accepted(2 + n % 2, n))
+        call = dirty(roomier(accepted(2 + n % 2, n)))
         yield call._replace(table=call.table[:-1])
         yield call._replace(table=call.table + [0])
     yield call._replace(table=[])
@@ -107,7 +124,7 @@ def table_lengths():
 def table_entries():
     for n in range(1, 9):
         for m in sorted({1, n}):
-            call = roomier(accepted(2 + n % 2, n, m))
+            call = dirty(roomier(accepted(2 + n % 2, n, m)))
             place = chance.randrange(2**n)
             yield with_entry(call, place, 2**m - 1 - call.table[place])
             if m < 8:
@@ -117,21 +134,21 @@ def table_entries():
 def mask_bounds():
     for n in (1, 2, 5, 8):
         call = roomier(accepted(2 + n % 2, n))
-        for name in INPUTS:
-            for number in (2**n - 1, 2**n):
-                yield with_numbers(call, **{name: number})
-        for name in OUTPUTS:
-            for number in (2**call.case.m - 1, 2**call.case.m):
-                yield with_numbers(call, **{name: number})
-        for method, b in ((2, 0), (2, 1), (3, 0), (3, 1), (3, 2)):
+        for name in INPUTS + OUTPUTS:
+            width = n if name in INPUTS else call.case.m
+            yield with_numbers(call, **{name: 2**width - 1})
+            yield dirty(with_numbers(call, **{name: 2**width}))
+        for method, b in ((2, 0), (3, 0), (3, 1)):
             yield with_numbers(roomier(accepted(method, n)), b=b)
+        for method, b in ((2, 1), (3, 2)):
+            yield dirty(with_numbers(roomier(accepted(method, n)), b=b))
 
 
 def wide_numbers():
     for name in INPUTS + OUTPUTS + ("b",):
         for number in WIDE_NUMBERS:
             method = chance.choice((2, 3))
-            yield with_numbers(accepted(method, chance.choice((3, 8))), **{name: number})
+            yield dirty(with_numbers(accepted(method, chance.choice((3, 8))), **{name: number}))
 
 
 def buffer_lengths():
@@ -144,7 +161,18 @@ def buffer_lengths():
     yield call._replace(scratch=LONGEST_SCRATCH, log=LONGEST_LOG)
 
 
-# Two faults together: the number that is checked first is returned.
+# One dirty byte at either end of those that must be clean and just behind them, all of them dirty, and dirty buffers that are short.
+def dirty_scratch():
+    for n in range(1, 9):
+        for method in (2, 3):
+            call = accepted(method, n)
+            yield from (dirty_at(call, 0), dirty_at(call, 2**n - 1), dirty(call))
+            yield dirty_at(call._replace(scratch=2**n + 1), 2**n)
+            yield dirty(call._replace(scratch=2**n - 1))
+            yield dirty(call._replace(log=call.log - 1))
+
+
+# A fault alone, which is one that is made twice, and two faults together: the number that is checked first is returned.
 def two_faults():
     faults = (
         lambda call: with_numbers(call, method=chance.choice((1, 4))),
@@ -157,16 +185,17 @@ def two_faults():
         lambda call: with_numbers(call, **{chance.choice(OUTPUTS): 4}),
         lambda call: with_numbers(call, b=2),
         lambda call: call._replace(scratch=7),
+        lambda call: dirty_at(call, chance.randrange(7)),
         lambda call: call._replace(log=call.log - 1),
     )
     for first, fault in enumerate(faults):
-        for other in faults[first + 1 :]:
+        for other in faults[first:]:
             yield other(fault(accepted(chance.choice((2, 3)), 3, 2)))
 
 
 def record(call):
     lengths = len(call.table), call.scratch, call.log
-    return struct.pack("<10I3H274s", *call.case, *lengths, bytes(call.table))
+    return struct.pack("<10I5H270s", *call.case, *lengths, call.dirty.start, call.dirty.stop, bytes(call.table))
 
 
 # It depends on every value and on their order.
@@ -178,7 +207,8 @@ def checksum(values):
 
 
 def answer(call):
-    scratch, log = [FILLED_BYTE] * call.scratch, [FILLED_ENTRY] * call.log
+    scratch = [DIRTY_BYTE if place in call.dirty else 0 for place in range(call.scratch)]
+    log = [FILLED_ENTRY] * call.log
     refusal, share, count, scratch, log = model.logged_call(call.case, call.table, scratch, log)
     if call.case.n <= 2:
         return [refusal, share, count, *scratch, *log]
@@ -194,6 +224,7 @@ KINDS = (
     mask_bounds,
     wide_numbers,
     buffer_lengths,
+    dirty_scratch,
     two_faults,
 )
 

@@ -83,7 +83,11 @@ fn soil(buffer: &mut [u8], from: usize, to: usize) {
 // Makes a record's call on the buffers lent, the scratch soiled where the record says, and prints its line.
 fn print_call(record: &[u8], scratch: &mut [u8], log: &mut [u16]) {
     let table = test_records::part(record, 50, test_records::length(record, 40));
-    soil(scratch, test_records::length(record, 46), test_records::length(record, 48));
+    soil(
+        scratch,
+        test_records::length(record, 46),
+        test_records::length(record, 48),
+    );
     let called = calls::logged(case(record), table, scratch, log);
     print_line(called, test_records::number(record, 4) <= 2, scratch, log);
 }
