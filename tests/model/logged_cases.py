@@ -161,12 +161,13 @@ def buffer_lengths():
     yield call._replace(scratch=LONGEST_SCRATCH, log=LONGEST_LOG)
 
 
-# One dirty byte at either end of those that must be clean and just behind them, all of them dirty, and dirty buffers that are short.
+# One dirty byte at either end of those that must be clean, anywhere among them and just behind them; all of them dirty; and dirty scratch
+# where it or the log is short.
 def dirty_scratch():
     for n in range(1, 9):
         for method in (2, 3):
             call = accepted(method, n)
-            yield from (dirty_at(call, 0), dirty_at(call, 2**n - 1), dirty(call))
+            yield from (dirty_at(call, 0), dirty_at(call, 2**n - 1), dirty_at(call, below(n)), dirty(call))
             yield dirty_at(call._replace(scratch=2**n + 1), 2**n)
             yield dirty(call._replace(scratch=2**n - 1))
             yield dirty(call._replace(log=call.log - 1))
