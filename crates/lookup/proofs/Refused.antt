@@ -1,13 +1,14 @@
 -- The lists of checks of both calls, part by part: what an accepted call has passed, and what a clean scratch is.
 use mathlib.Core.Path.{_≡_, refl, sym, ap, _∙_}
 use mathlib.Core.Bool.{true, false}
-use mathlib.Core.List.{List, _++_}
-use Prim.Native.Nat.{ℕ, _≤_}
+use mathlib.Core.List.{List, _++_, append-assoc}
+use Prim.Native.Nat.{ℕ, _+_, _-_, _≤_}
+use native.Mathlib.Omega.{arith}
 use borrow.Author.Tests.{ltb-false, le-ltb}
-use lib.ListN.{length, take, replicate, length-replicate}
+use lib.ListN.{length, take, replicate, length-replicate, replicate-append-replicate}
 use lib.Seq.{length-take-le, take-at}
 use Rattle.refusals.specs.Checks.{first-of}
-use Rattle.refusals.proofs.Checks.{passed, goes, none-applies, numbered, passed-both, none-behind}
+use Rattle.refusals.proofs.Checks.{passed, goes, none-applies, numbered, passed-both, goes-both, none-behind}
 use Rattle.refusals.proofs.Tests.{zeros-none, none-nonzero}
 use Rattle.table.specs.Refusals.{table-checks}
 use Rattle.lookup.specs.declared.Case.{Case}
@@ -41,6 +42,15 @@ module _ (c : Case) (scratch : List ℕ) where
   unfolding scratch-checks
   scratch-not-refused k = sym (goes 13 _ (le-ltb _ _ (k .room)) (goes 19 _ (k .clean) none-applies))
 
+-- a cleared scratch that is long enough
+pub cleared : (c : Case) (size : ℕ) → scratch-length (c .method) (c .n) ≤ size → Clean c (replicate size 0)
+cleared c size h =
+    let k = scratch-length (c .method) (c .n) in
+    let rest : List ℕ = replicate (size - k) 0 in
+    let sum : k + (size - k) ≡ size = omega (arith, h) in
+    let parts : replicate k 0 ++ rest ≡ replicate size 0 = replicate-append-replicate k (size - k) 0 ∙ ap (λ i. replicate i 0) sum in
+    record { room = simp length-replicate h; clean = rw (← parts) (zeros-clean k rest) }
+
 -- and the check of the log
 pub log-not-refused : (c : Case) (lent : List ℕ) → log-length (c .method) (c .n) ≤ length lent → first-of (log-checks c lent) ≡ 0
 unfolding log-checks
@@ -73,3 +83,11 @@ module _ (c : Case) (table : List ℕ) where
     pub logged-by-plain : (lent : List ℕ) → first-of (log-checks c lent) ≡ 0 → logged-refusal c table scratch lent ≡ plain-refusal c table scratch
     unfolding plain-refusal logged-refusal
     logged-by-plain lent e = none-behind (case-checks c table ++ scratch-checks c scratch) (log-checks c lent) e
+
+    -- an accepted case leaves the number to scratch and log
+    pub logged-by-rest : (lent : List ℕ) → case-refusal c table ≡ 0
+        → logged-refusal c table scratch lent ≡ first-of (scratch-checks c scratch ++ log-checks c lent)
+    unfolding case-refusal logged-refusal
+    logged-by-rest lent e =
+        ap first-of (append-assoc (case-checks c table) (scratch-checks c scratch) (log-checks c lent))
+        ∙ sym (goes-both (case-checks c table) (scratch-checks c scratch ++ log-checks c lent) case-numbered (sym e) refl)

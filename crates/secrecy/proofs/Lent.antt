@@ -1,25 +1,27 @@
 -- The logged call accepts every choice that is counted, and what it leaves in the lent log is the log that the third demand counts.
 use mathlib.Core.Path.{_≡_, refl, sym, ap, _∙_}
 use mathlib.Core.Logic.{_⊎_}
-use mathlib.Core.List.{List}
-use Prim.Native.Nat.{ℕ, _^_, _<_}
+use mathlib.Core.List.{List, _++_}
+use Prim.Native.Nat.{ℕ, zero, suc, _^_, _<_}
 use lib.ListN.{length, drop, List·getD-append}
 use Rattle.bits.proofs.Xor.{below}
+use Rattle.refusals.specs.Checks.{first-of}
 use Rattle.buffers.specs.Written.{in-front}
-use Rattle.counting.specs.Choice.{Within}
+use Rattle.counting.specs.Choice.{over, Within}
 use Rattle.counting.proofs.Over.{over-ext}
 use Rattle.table.specs.Balanced.{at}
 use Rattle.table.specs.Refusals.{table-refusal}
 use Rattle.table.proofs.Refusals.{table-accepted}
 use Rattle.lookup.specs.Case.{Q}
 use Rattle.lookup.specs.Entry.{value-of}
-use Rattle.lookup.specs.Call.{log-of, log-length, scratch-length}
+use Rattle.lookup.specs.Call.{log-of, log-length}
+use Rattle.lookup.specs.Refusals.{scratch-checks, log-checks, logged-refusal}
 use Rattle.lookup.specs.Promises.{Log-long}
 use Rattle.lookup.proofs.Promises.{log-long}
 use Rattle.lookup.proofs.Methods.{of-each, known-2-or-3}
 use Rattle.lookup.proofs.Accepted.{Taken, not-refused}
+use Rattle.lookup.proofs.Refused.{log-not-refused, plain-case, logged-plain, plain-by-case, logged-by-plain, logged-by-rest}
 use Rattle.calls.specs.Reply.{left, logged-log}
-use Rattle.call_checks.proofs.Checking.{plain-case, logged-plain, at-room, at-end}
 use Rattle.secrecy.specs.Count.{single, chosen-case, mask-widths, value-at, shows, count, call-count}
 use Rattle.secrecy.specs.Promises.{Tells-nothing, Choices-accepted, Lent-log-counted, Call-tells-nothing}
 use Rattle.secrecy.proofs.Hiding.{hiding}
@@ -59,23 +61,45 @@ choice-taken table method n m x choice e k h inside =
 
 pub choices-accepted : Choices-accepted
 unfolding Choices-accepted chosen-case
-choices-accepted table scratch lent method n m x choice e k h inside room long =
+choices-accepted table scratch lent method n m x choice e k h inside room clean long =
     let c = chosen-case single method n m x choice in
-    let case-passed = not-refused c table (choice-taken table method n m x choice e k h inside) in
-    let plain-passed = at-room c table scratch 0 (scratch-length method n) (sym case-passed) refl refl room in
-    sym (at-end c table scratch lent 0 (log-length method n) plain-passed refl refl long)
+    logged-by-plain c table scratch lent (log-not-refused c lent long)
+    ∙ plain-by-case c table scratch (record { room = room; clean = clean })
+    ∙ not-refused c table (choice-taken table method n m x choice e k h inside)
 
 pub call-tells-nothing : Call-tells-nothing
-unfolding Call-tells-nothing Choices-accepted Lent-log-counted Tells-nothing call-count count shows value-at
-call-tells-nothing table scratch lent method n m x y i j u v e k hx hy room long hi hj =
-    counted x hx ∙ tells-nothing table method n m x y i j u v (table-accepted n m table e .balance) k hx hy ∙ sym (counted y hy)
+unfolding Call-tells-nothing Lent-log-counted Tells-nothing call-count count shows value-at chosen-case scratch-checks log-checks logged-log
+    left
+call-tells-nothing table scratch lent method n m x y i j u v e k hx hy hi hj = by-rest rest refl
   where
-    at-position : (z : ℕ) → z < 2 ^ n → (c : ℕ → ℕ) → Within (mask-widths method n m) c → (p : ℕ) → p < log-length method n
+    -- what scratch and log are refused by, which no choice changes
+    rest : ℕ
+    rest =
+        let c = chosen-case single method n m x (λ i. 0) in
+        first-of (scratch-checks c scratch ++ log-checks c lent)
+
+    number : (z : ℕ) → z < 2 ^ n → (c : ℕ → ℕ) → Within (mask-widths method n m) c
+        → logged-refusal (chosen-case single method n m z c) table scratch lent ≡ rest
+    number z hz c inside =
+        let one = chosen-case single method n m z c in
+        logged-by-rest one table scratch lent (not-refused one table (choice-taken table method n m z c e k hz inside))
+
+    -- accepted: the log is the counted one
+    at-position : rest ≡ 0 → (z : ℕ) → z < 2 ^ n → (c : ℕ → ℕ) → Within (mask-widths method n m) c → (p : ℕ) → p < log-length method n
         → value-at (logged-log (chosen-case single method n m z c) table scratch lent) p
         ≡ value-at (log-of (chosen-case single method n m z c) table) p
-    at-position z hz c inside p h =
-        ap value-of
-        (lent-log-counted table scratch lent method n m z c p (choices-accepted table scratch lent method n m z c e k hz inside room long) h)
+    at-position none z hz c inside p h = ap value-of (lent-log-counted table scratch lent method n m z c p (number z hz c inside ∙ none) h)
 
-    counted : (z : ℕ) → z < 2 ^ n → call-count table scratch lent method n m z i j u v ≡ count table method n m z i j u v
-    counted z hz = over-ext (mask-widths method n m) (λ c inside. rw (at-position z hz c inside i hi, at-position z hz c inside j hj))
+    counted : rest ≡ 0 → (z : ℕ) → z < 2 ^ n → call-count table scratch lent method n m z i j u v ≡ count table method n m z i j u v
+    counted none z hz =
+        over-ext (mask-widths method n m) (λ c inside. rw (at-position none z hz c inside i hi, at-position none z hz c inside j hj))
+
+    -- refused: the log is the lent one
+    kept : (r : ℕ) → rest ≡ suc r → (z : ℕ) → z < 2 ^ n
+        → call-count table scratch lent method n m z i j u v ≡ over (mask-widths method n m) (λ c. shows i j u v lent)
+    kept r some z hz = over-ext (mask-widths method n m) (λ c inside. rw (number z hz c inside ∙ some))
+
+    by-rest : (r : ℕ) → rest ≡ r → call-count table scratch lent method n m x i j u v ≡ call-count table scratch lent method n m y i j u v
+    by-rest zero none =
+        counted none x hx ∙ tells-nothing table method n m x y i j u v (table-accepted n m table e .balance) k hx hy ∙ sym (counted none y hy)
+    by-rest (suc r) some = kept r some x hx ∙ sym (kept r some y hy)

@@ -1,8 +1,8 @@
--- Document 01's bench sheet, P1 to P12, and counts beside it: on each line what the definitions come to, and what the paper says.
+-- Document 01's bench sheet, P1 to P12, with document 02's clean scratch, and counts beside it: on each line what the definitions come to, and what the paper says.
 use mathlib.Core.Path.{_≡_}
 use mathlib.Core.List.{List, [], _∷_, _++_, map}
 use Prim.Native.Nat.{ℕ, suc}
-use lib.ListN.{replicate}
+use lib.ListN.{set, replicate}
 use Rattle.counting.specs.Choice.{over}
 use Rattle.shares.specs.Shares.{join}
 use Rattle.linear.specs.Layer.{layer}
@@ -27,9 +27,13 @@ A = 2 ∷ 0 ∷ 3 ∷ 1 ∷ []
 abbrev P2 : Case
 P2 = case-from 2 2 2 0 1 2 3 0 2 0
 
--- the logged call's number, by the lengths of the lent scratch and log
+-- the logged call's number, by the lengths of the lent scratch and log; all begin with zeros
 abbrev refused : Case → (table : List ℕ) → (scratch log : ℕ) → ℕ
 refused c table scratch log = logged-refusal c table (replicate scratch 0) (replicate log 0)
+
+-- P2's number where one byte of the scratch is not zero
+abbrev dirty-P2 : (scratch place log : ℕ) → ℕ
+dirty-P2 scratch place log = logged-refusal P2 A (set (replicate scratch 0) place 1) (replicate log 0)
 
 -- every input with every choice of masks in their widths: the logged call's numbers, added up
 abbrev all-masks : (method n m : ℕ) → (table : List ℕ) → (scratch log : ℕ) → ℕ
@@ -61,6 +65,10 @@ sheet =
     ∷ (all-masks 2 2 1 (0 ∷ 1 ∷ 1 ∷ 0 ∷ []) 4 34 ∷ all-masks 3 2 1 (0 ∷ 1 ∷ 1 ∷ 0 ∷ []) 4 46 ∷ []) says (0 ∷ 0 ∷ [])
     -- P7: scratch of 3 bytes: 13; with 4 accepted
     ∷ (refused P2 A 3 34 ∷ refused P2 A 4 34 ∷ []) says (13 ∷ 0 ∷ [])
+    -- P2 with a nonzero byte (document 02, §4): the first, the last of 2^n: 19; the one behind them: accepted
+    ∷ (dirty-P2 4 0 34 ∷ dirty-P2 4 3 34 ∷ dirty-P2 5 4 34 ∷ []) says (19 ∷ 19 ∷ 0 ∷ [])
+    -- 13 comes before 19, and 19 before 14
+    ∷ (dirty-P2 3 0 34 ∷ dirty-P2 4 0 33 ∷ []) says (13 ∷ 19 ∷ [])
     -- P8: a log of 33: 14; with 34 accepted
     ∷ (refused P2 A 4 33 ∷ refused P2 A 4 34 ∷ []) says (14 ∷ 0 ∷ [])
     -- P9: method 2 with b = 1: 12; method 3 with b = 2: 12

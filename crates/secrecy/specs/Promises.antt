@@ -2,7 +2,7 @@
 -- proofs/Promises.antt and proofs/Lent.antt.
 use mathlib.Core.Path.{_≡_}
 use mathlib.Core.Logic.{_⊎_}
-use mathlib.Core.Bool.{true}
+use mathlib.Core.Bool.{true, false}
 use mathlib.Core.List.{List}
 use Prim.Native.Nat.{ℕ, _+_, _*_, _^_, _≤_, _<_}
 use lib.ListN.{length}
@@ -11,7 +11,7 @@ use Rattle.table.specs.Balanced.{at, balanced}
 use Rattle.table.specs.Even.{Even}
 use Rattle.table.specs.Refusals.{table-refusal}
 use Rattle.lookup.specs.Call.{log-of, log-length, scratch-length}
-use Rattle.lookup.specs.Refusals.{logged-refusal}
+use Rattle.lookup.specs.Refusals.{dirty, logged-refusal}
 use Rattle.calls.specs.Reply.{logged-log}
 use Rattle.secrecy.specs.Count.{single, chosen-case, mask-widths, count, call-count}
 
@@ -33,12 +33,13 @@ unfoldable pub Choices-counted : Type 0
 Choices-counted =
     (n m : ℕ) → (over (mask-widths 2 n m) (λ c. 1) ≡ 2 ^ (3 * n + 2 * m)) × (over (mask-widths 3 n m) (λ c. 1) ≡ 2 * 2 ^ (3 * n + 2 * m))
 
--- every one of them is accepted by the logged call, where the table is and where scratch and log are long enough
+-- every one of them is accepted by the logged call, where the table is, where scratch and log are long enough, and the scratch is clean
 unfoldable pub Choices-accepted : Type 0
 Choices-accepted =
     (table scratch lent : List ℕ) (method n m x : ℕ) (choice : ℕ → ℕ) → table-refusal n m table ≡ 0 → (method ≡ 2) ⊎ (method ≡ 3)
     → x < 2 ^ n →
-    Within (mask-widths method n m) choice → scratch-length method n ≤ length scratch → log-length method n ≤ length lent →
+    Within (mask-widths method n m) choice → scratch-length method n ≤ length scratch → dirty (scratch-length method n) scratch ≡ false →
+    log-length method n ≤ length lent →
     logged-refusal (chosen-case single method n m x choice) table scratch lent ≡ 0
 
 -- for every input and choice, and whatever scratch and log are lent as the call accepts them: each entry below the log's length is the
@@ -50,11 +51,10 @@ Lent-log-counted =
     i < log-length method n →
     at (logged-log (chosen-case single method n m x choice) table scratch lent) i ≡ at (log-of (chosen-case single method n m x choice) table) i
 
--- the third demand of the call itself: what it leaves in a lent log that is long enough shows two values at two positions equally often
--- for any two inputs
+-- the third demand of the call itself, whatever scratch and log are lent, refused ones too: what it leaves in the log shows two values at
+-- two positions equally often for any two inputs
 unfoldable pub Call-tells-nothing : Type 0
 Call-tells-nothing =
     (table scratch lent : List ℕ) (method n m x y i j u v : ℕ) → table-refusal n m table ≡ 0 → (method ≡ 2) ⊎ (method ≡ 3) → x < 2 ^ n
-    → y < 2 ^ n →
-    scratch-length method n ≤ length scratch → log-length method n ≤ length lent → i < log-length method n → j < log-length method n →
+    → y < 2 ^ n → i < log-length method n → j < log-length method n →
     call-count table scratch lent method n m x i j u v ≡ call-count table scratch lent method n m y i j u v

@@ -1,11 +1,11 @@
 -- What the logged call told, and the print that answers it; 1 where the sheet is malformed.
 use mathlib.Core.Path.{_≡_, refl, sym, ap, _∙_}
 use mathlib.Core.Bool.{Bool, true, false, cond}
-use mathlib.Core.List.{List, [], _∷_, _++_}
-use Prim.Native.Nat.{ℕ, zero, suc, _+_, _*_, _-_, _^_, _≤_}
+use mathlib.Core.List.{List, [], _∷_}
+use Prim.Native.Nat.{ℕ, zero, suc, _+_, _*_, _^_, _≤_}
 use native.Mathlib.Omega.{arith}
 use borrow.Author.Tests.{eq-eqb, ne-eqb}
-use lib.ListN.{length, take, replicate, length-take, length-replicate, replicate-append-replicate}
+use lib.ListN.{length, take, replicate, length-take}
 use lib.Seq.{take-at}
 use Rattle.buffers.specs.Written.{in-front}
 use Rattle.lookup.specs.declared.Case.{Case}
@@ -14,7 +14,7 @@ use Rattle.lookup.specs.Call.{answer, log-of, log-length, scratch-length}
 use Rattle.lookup.specs.Refusals.{case-refusal, logged-refusal}
 use Rattle.lookup.specs.Promises.{Log-long}
 use Rattle.lookup.proofs.Accepted.{accepted, accepted-bounded}
-use Rattle.lookup.proofs.Refused.{Clean, zeros-clean, log-not-refused, plain-by-case, logged-by-plain}
+use Rattle.lookup.proofs.Refused.{cleared, log-not-refused, plain-by-case, logged-by-plain}
 use Rattle.lookup.proofs.Promises.{taken-right, log-long}
 use Rattle.calls.specs.Reply.{called, left, logged-reply, logged-log}
 use Rattle.call_checks.proofs.Checking.{at-case, at-plain}
@@ -43,20 +43,13 @@ module _ (c : Case) (table : List ℕ) where
   -- zeros are lent, and scratch and log are long enough, so only the case is refused
   module _ (scratch lent : List ℕ) (x : Called) (told : x ≡ logged-reply c table scratch lent)
       (zeros : scratch ≡ replicate 256 0) (log-room : length lent ≡ 2400) where
-    clean : scratch-length (c .method) (c .n) ≤ 256 → Clean c scratch
-    clean h =
-        let k = scratch-length (c .method) (c .n) in
-        let both : scratch ≡ replicate k 0 ++ replicate (256 - k) 0
-        = zeros ∙ ap (λ i. replicate i 0) (omega (arith, h)) ∙ sym (replicate-append-replicate k (256 - k) 0) in
-        record { room = rw (zeros, length-replicate) h; clean = rw both (zeros-clean k _) }
-
     same-refusal : logged-refusal c table scratch lent ≡ case-refusal c table
     same-refusal = same-refusal-by-cases (case-refusal c table) refl
       where
         same-refusal-by-cases : (k : ℕ) → k ≡ case-refusal c table → logged-refusal c table scratch lent ≡ case-refusal c table
         same-refusal-by-cases zero e =
             logged-by-plain c table scratch lent (log-not-refused c lent (omega (arith, log-most (sym e))))
-            ∙ plain-by-case c table scratch (clean (scratch-most (sym e)))
+            ∙ plain-by-case c table scratch (rw zeros (cleared c 256 (scratch-most (sym e))))
         same-refusal-by-cases (suc k) e =
             sym (at-plain c table scratch lent (suc k) (at-case c table scratch (suc k) e (λ z. omega arith)) (λ z. omega arith)) ∙ e
 
