@@ -80,9 +80,10 @@ fn soil(buffer: &mut [u8], from: usize, to: usize) {
     }
 }
 
-// Makes a record's call on the buffers lent, the scratch soiled where the record says, and prints its line.
+// Makes a record's call on the buffers lent, the scratch cleared and then soiled where the record says, and prints its line.
 fn print_call(record: &[u8], scratch: &mut [u8], log: &mut [u16]) {
     let table = test_records::part(record, 50, test_records::length(record, 40));
+    buffers::clear(scratch);
     soil(
         scratch,
         test_records::length(record, 46),
@@ -92,10 +93,9 @@ fn print_call(record: &[u8], scratch: &mut [u8], log: &mut [u16]) {
     print_line(called, test_records::number(record, 4) <= 2, scratch, log);
 }
 
-// Lends buffers of the record's lengths: clean scratch, which is soiled later, and a filled log, so that what a call writes and what
-// it leaves can both be seen.
+// Lends filled buffers of the record's lengths, so that what is cleared, what a call writes and what it leaves can all be seen.
 fn answer(record: &[u8]) {
-    let mut scratch = [0u8; 300];
+    let mut scratch = [90u8; 300];
     let mut log = [42405u16; 2400];
     let bytes = test_records::least(test_records::length(record, 42), 300);
     let entries = test_records::least(test_records::length(record, 44), 2400);
