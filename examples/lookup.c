@@ -1,4 +1,5 @@
-// Looks up a secret in a table without forming it: the C side of a masked lookup, with fresh masks from the system.
+// Looks up a secret in a table without forming it: the C side of a masked lookup, with fresh masks from the system. A lookup begins with
+// zeros in its scratch, so that it is cleared before the first and after each.
 #include <cippazhey.h>
 #include <stdio.h>
 
@@ -9,12 +10,14 @@ int main(void) {
     uint8_t scratch[CIPPAZHEY_SCRATCH_LENGTH], random[6];
     FILE *noise = fopen("/dev/urandom", "rb");
     if (!noise) return 1;
+    cippazhey_clear(scratch, sizeof scratch);
     for (uint32_t secret = 0; secret < 16; secret += 5) {
         for (uint32_t method = 2; method <= 3; method++) {
             if (fread(random, 1, sizeof random, noise) != sizeof random) return 1;
             uint32_t r1 = random[0] % 16, r2 = random[1] % 16, r3 = random[2] % 16, s1 = random[3] % 16, s2 = random[4] % 16;
             uint32_t b = method == 3 ? random[5] % 2 : 0;
             uint16_t result = cippazhey_plain_call(method, 4, 4, secret ^ r1 ^ r2, r1, r2, s1, s2, r3, b, table, 16, scratch, sizeof scratch);
+            cippazhey_clear(scratch, sizeof scratch);
             if (cippazhey_refusal_of(result) != CIPPAZHEY_ACCEPTED) return 1;
             unsigned share = cippazhey_share_of(result);
             printf("method %u: shares %2u %2u %2u in, shares %2u %2u %2u out, joined: table[%2u] = %2u\n", (unsigned)method,

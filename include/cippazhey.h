@@ -1,4 +1,5 @@
-// Cippazhey for C and C++: the masked table lookup on three shares, the numbers of its refusals, and what its caller owes.
+// Cippazhey for C and C++: the masked table lookup on three shares, the numbers of its refusals, what its caller owes, and
+// the call that clears its scratch.
 // Link libcippazhey.a, which `make lib` writes to target/staticlib/. It needs memset and memcpy, and nothing else.
 #ifndef CIPPAZHEY_H
 #define CIPPAZHEY_H
@@ -10,7 +11,7 @@
 extern "C" {
 #endif
 
-// Why a call is refused. The first that applies, in this order, is returned.
+// Why a call is refused. The order of this list is the order of checking, and the first that applies is returned.
 enum cippazhey_refusal {
     CIPPAZHEY_ACCEPTED = 0,
     CIPPAZHEY_REFUSED_METHOD = 2,           // the method is neither 2 nor 3
@@ -22,7 +23,8 @@ enum cippazhey_refusal {
     CIPPAZHEY_REFUSED_INPUT_SHARE = 10,     // x0, r1, r2 or r3 is 2^n or more
     CIPPAZHEY_REFUSED_OUTPUT_MASK = 11,     // s1 or s2 is 2^m or more
     CIPPAZHEY_REFUSED_BIT = 12,             // b is above 0 under method 2, or above 1 under method 3
-    CIPPAZHEY_REFUSED_SCRATCH_LENGTH = 13   // scratch has fewer than 2^n bytes
+    CIPPAZHEY_REFUSED_SCRATCH_LENGTH = 13,  // scratch has fewer than 2^n bytes
+    CIPPAZHEY_REFUSED_DIRTY_SCRATCH = 19    // one of the first 2^n bytes of scratch is not zero
 };
 
 // A call needs 2^n bytes of scratch. This many suffice for every width.
@@ -38,13 +40,17 @@ enum cippazhey_refusal {
 //   r3           a mask of width n that the lookup itself uses
 //   b            under method 3 a random bit, under method 2 always 0
 //   table        one byte an entry; only read
-//   scratch      written; what it holds before does not matter. Accepted, its first 2^n bytes are method 2's masked
-//                table or method 3's comparison bytes, and the rest stays. Refused, all of it stays.
+//   scratch      its first 2^n bytes must be zero; what stands behind them is not looked at, and stays. Accepted, those
+//                2^n bytes become method 2's masked table or method 3's comparison bytes. Refused, all of it stays.
 //
 // What the caller owes:
 //   - table and scratch point to as many bytes as their lengths say. NULL is allowed only with length 0.
 //   - table and scratch do not overlap, and nothing else touches them while the call runs.
 //   - r1, r2, r3, s1, s2, and b under method 3 are uniform, independent, and new for each call. No call can check that.
+//   - scratch is cleared before the first call, and after each accepted one as soon as it has returned. Otherwise the next
+//     call is refused. And what method 2 leaves beside the returned share is a share too many: byte r3 is that share, the
+//     others are the table's other entries under the same masks. Together they can tell s1 ^ s2 (for the S-box of AES they
+//     do), and that with the returned share gives table[x].
 //
 // What is proved of the source:
 //   - Every call returns, and reads and writes only the bytes it is lent.
@@ -60,6 +66,16 @@ enum cippazhey_refusal {
 uint16_t cippazhey_plain_call(uint32_t method, uint32_t n, uint32_t m, uint32_t x0, uint32_t r1, uint32_t r2, uint32_t s1,
                               uint32_t s2, uint32_t r3, uint32_t b, const uint8_t *table, size_t table_length,
                               uint8_t *scratch, size_t scratch_length);
+
+// Sets every byte of a buffer to zero: scratch, before the first lookup and after each. Nothing is refused.
+// A memset is not enough: a compiler may drop it where the buffer is not read again. It does not see into this call.
+//
+//   buffer       written; NULL is allowed only with length 0
+//   length       how many bytes buffer points to: any number
+//
+// What is proved of the source: the call returns, and every byte of the buffer is zero afterwards; it writes no other.
+// What is not: a copy of those bytes that the caller's compiler made elsewhere stays.
+void cippazhey_clear(uint8_t *buffer, size_t length);
 
 // The refusal in a result: one of the numbers above, CIPPAZHEY_ACCEPTED where there is none.
 static inline unsigned cippazhey_refusal_of(uint16_t result) {
