@@ -21,16 +21,30 @@ static void expect_lengths(struct trial trial, size_t table_length, size_t scrat
     expect(&trial, refusal, what);
 }
 
-// The bench sheet, as far as it speaks of the plain call.
+static void expect_dirt(struct trial trial, size_t place, uint8_t dirt, unsigned refusal, const char *what) {
+    trial.scratch[place] = dirt;
+    expect(&trial, refusal, what);
+}
+
+// The bench sheet, as far as it speaks of the plain call, and P2 and P7 with scratch that is not clean.
+
+static void dirty_scratch_of_p2(struct trial p2) {
+    p2.scratch_length = 5;
+    p2.scratch[4] = 9;
+    expect_whole(&p2, 2, (const uint8_t[]){3, 1, 2, 0, 9}, "P2, dirty behind its four bytes");
+    make_dirty(&p2, 0);
+    p2.scratch_length = 3;
+    expect(&p2, 13, "P7, dirty");
+}
 
 static void bench_sheet(void) {
-    const struct trial p1 = {{2, 1, 1, 0, 1, 0, 0, 1, 1, 0}, {1, 0}, 2, 2};
-    const struct trial p2 = {{2, 2, 2, 0, 1, 2, 3, 0, 2, 0}, {2, 0, 3, 1}, 4, 4};
-    const struct trial p3 = {{3, 2, 2, 0, 1, 2, 3, 0, 2, 1}, {2, 0, 3, 1}, 4, 4};
-    const struct trial p5 = {{2, 2, 3, 0, 1, 2, 3, 0, 2, 0}, {2, 0, 3, 1}, 4, 4};
-    const struct trial p6 = {{2, 2, 1, 0, 1, 2, 1, 0, 2, 0}, {0, 0, 0, 1}, 4, 4};
-    const struct trial p6_accepted = {{2, 2, 1, 0, 1, 2, 1, 0, 2, 0}, {0, 1, 1, 0}, 4, 4};
-    const struct trial p10 = {{4, 9, 2, 0, 1, 2, 3, 0, 2, 0}, {2, 0, 3, 1}, 4, 4};
+    const struct trial p1 = {{2, 1, 1, 0, 1, 0, 0, 1, 1, 0}, {1, 0}, {0}, 2, 2};
+    const struct trial p2 = {{2, 2, 2, 0, 1, 2, 3, 0, 2, 0}, {2, 0, 3, 1}, {0}, 4, 4};
+    const struct trial p3 = {{3, 2, 2, 0, 1, 2, 3, 0, 2, 1}, {2, 0, 3, 1}, {0}, 4, 4};
+    const struct trial p5 = {{2, 2, 3, 0, 1, 2, 3, 0, 2, 0}, {2, 0, 3, 1}, {0}, 4, 4};
+    const struct trial p6 = {{2, 2, 1, 0, 1, 2, 1, 0, 2, 0}, {0, 0, 0, 1}, {0}, 4, 4};
+    const struct trial p6_accepted = {{2, 2, 1, 0, 1, 2, 1, 0, 2, 0}, {0, 1, 1, 0}, {0}, 4, 4};
+    const struct trial p10 = {{4, 9, 2, 0, 1, 2, 3, 0, 2, 0}, {2, 0, 3, 1}, {0}, 4, 4};
     expect_whole(&p1, 1, (const uint8_t[]){0, 1}, "P1");
     expect_whole(&p2, 2, (const uint8_t[]){3, 1, 2, 0}, "P2");
     expect_whole(&p3, 2, (const uint8_t[]){0, 0, 1, 0}, "P3");
@@ -44,6 +58,9 @@ static void bench_sheet(void) {
     expect_with(&p2, B, 1, 12, "P9, method 2");
     expect_with(&p3, B, 2, 12, "P9, method 3");
     expect(&p10, 2, "P10");
+    expect_dirt(p2, 0, 1, 19, "P2, dirty in its first byte");
+    expect_dirt(p2, 3, 1, 19, "P2, dirty in its last byte");
+    dirty_scratch_of_p2(p2);
 }
 
 // Each refusal, with what is just inside and just outside, and numbers that come into range when they are cut to 8 or 16 bits.
@@ -82,6 +99,42 @@ static void widths_and_methods(const struct trial *fine, uint32_t n) {
     expect_with(fine, M, n + 1, 4, "output width above the input width");
 }
 
+// A nonzero byte in each place, and in three places with values that a test for one bit, for a sign or for 1 takes for zero.
+static void dirt_bounds(const struct trial *fine, uint32_t entries) {
+    const size_t places[] = {0, entries / 2, entries - 1};
+    const uint8_t values[] = {1, 128, 255};
+    for (size_t place = 0; place < entries; place++) {
+        expect_dirt(*fine, place, (uint8_t)power(below(8)), 19, "one dirty byte");
+    }
+    for (int each = 0; each < 9; each++) {
+        expect_dirt(*fine, places[each / 3], values[each % 3], 19, "dirty first, middle or last byte");
+    }
+}
+
+// What scratch holds from 2^n on is not looked at, and does not make good what stands before.
+static void dirt_in_longer_scratch(struct trial longer, uint32_t entries) {
+    longer.scratch_length = entries + 1;
+    expect_dirt(longer, entries, 1, 0, "dirty byte behind, 1");
+    expect_dirt(longer, entries, 128, 0, "dirty byte behind, 128");
+    expect_dirt(longer, entries, 255, 0, "dirty byte behind, 255");
+    longer.scratch_length = LONGEST;
+    expect_dirt(longer, entries - 1, 1, 19, "dirty last byte, dirty behind");
+    memset(longer.scratch, 0, LONGEST);
+    expect(&longer, 0, "clean behind");
+    expect_dirt(longer, entries - 1, 1, 19, "dirty last byte, clean behind");
+}
+
+static void dirty_scratch(const struct trial *fine, uint32_t entries) {
+    struct trial dirty = *fine;
+    dirty.scratch[0] = 128;
+    expect_dirt(dirty, entries - 1, 128, 19, "two dirty bytes whose sum in 8 bits and whose exclusive or are zero");
+    make_dirty(&dirty, 0);
+    expect(&dirty, 19, "every byte dirty");
+    expect_lengths(dirty, entries, entries - 1, 13, "every byte dirty, and too few");
+    dirt_bounds(fine, entries);
+    dirt_in_longer_scratch(*fine, entries);
+}
+
 static void neighbours_at(uint32_t method, uint32_t n, uint32_t m) {
     struct trial fine = accepted(method, n, m);
     uint32_t entries = power(n), values = power(m);
@@ -103,6 +156,7 @@ static void neighbours_at(uint32_t method, uint32_t n, uint32_t m) {
     expect_lengths(fine, entries, 0, 13, "empty scratch");
     expect_lengths(fine, entries, entries + 1, 0, "scratch longer by one");
     expect_lengths(fine, entries, LONGEST, 0, "scratch much longer");
+    dirty_scratch(&fine, entries);
 }
 
 static void neighbours(void) {
@@ -116,10 +170,20 @@ static void neighbours(void) {
 
 // Every set of refusals at once: the first in the order of checking is returned.
 
-static const unsigned refusals[] = {2, 3, 4, 5, 6, 7, 10, 11, 12, 13};
+static const unsigned refusals[] = {2, 3, 4, 5, 6, 7, 10, 11, 12, 13, 19};
 enum { REFUSALS = sizeof refusals / sizeof *refusals };
 
-// Gives an accepted call one fault that does not take away another's. The table's two are applied with 7 before 6.
+// Scratch that is too short by one byte still has the dirty one.
+static void add_dirt(struct trial *trial, uint32_t n) {
+    if (below(2)) {
+        make_dirty(trial, 0);
+    } else {
+        trial->scratch[below(power(n) - 1)] = (uint8_t)(1 + below(255));
+    }
+}
+
+// Gives an accepted call one fault that does not take away another's, but for dirt in scratch that becomes empty. The table's two are
+// applied with 7 before 6.
 static void add_fault(struct trial *trial, unsigned refusal, uint32_t n, uint32_t m) {
     switch (refusal) {
     case 2: trial->number[METHOD] = below(2) ? 4 : 258; break;
@@ -131,7 +195,8 @@ static void add_fault(struct trial *trial, unsigned refusal, uint32_t n, uint32_
     case 10: trial->number[(const int[]){X0, R1, R2, R3}[below(4)]] = below(2) ? power(n) : UINT32_MAX; break;
     case 11: trial->number[below(2) ? S1 : S2] = below(2) ? power(m) : 256; break;
     case 12: trial->number[B] = below(2) ? 2 : 256; break;
-    default: trial->scratch_length = below(2) ? power(n) - 1 : 0; break;
+    case 13: trial->scratch_length = below(2) ? power(n) - 1 : 0; break;
+    default: add_dirt(trial, n); break;
     }
 }
 
@@ -159,24 +224,105 @@ static void several_faults(void) {
 
 // Lengths that come into range when they are cut to 8 or 16 bits: such a table is refused, such scratch suffices.
 
+enum { LONG = 65536 + 256 };
+static uint8_t long_table[LONG], long_scratch[LONG], wanted_scratch[LONG];
+
+static void fill_long_scratch(size_t clean, uint8_t rest) {
+    memset(long_scratch, 0, clean);
+    memset(long_scratch + clean, rest, LONG - clean);
+    memcpy(wanted_scratch, long_scratch, LONG);
+}
+
 static void long_buffers_at(uint32_t n, size_t length) {
-    static uint8_t table[65536 + 256], scratch[65536], wanted[65536];
     struct trial trial = accepted(2 + below(2), n, 1 + below(n));
-    memcpy(table, trial.table, power(n));
-    memset(scratch, 170, sizeof scratch);
-    memset(wanted, 170, sizeof wanted);
+    memcpy(long_table, trial.table, power(n));
+    fill_long_scratch(power(n), 170);
     trial.scratch_length = length;
-    record(make_call(&trial, table, scratch) == make_reference_call(&trial, table, wanted), "result with long scratch");
+    uint16_t got = make_call(&trial, long_table, long_scratch);
+    record(got == make_reference_call(&trial, long_table, wanted_scratch), "result with long scratch");
     trial.table_length += length;
-    record(make_call(&trial, table, scratch) == 256 * CIPPAZHEY_REFUSED_TABLE_LENGTH, "long table");
-    record(memcmp(scratch, wanted, sizeof scratch) == 0, "long scratch");
+    record(make_call(&trial, long_table, long_scratch) == 256 * CIPPAZHEY_REFUSED_TABLE_LENGTH, "long table");
+    record(memcmp(long_scratch, wanted_scratch, LONG) == 0, "long scratch");
+}
+
+// One dirty byte in long scratch. Behind 2^n it does not matter, wherever its place comes to when it is cut.
+static void dirt_in_long_scratch(uint32_t n, size_t place) {
+    struct trial trial = accepted(2 + below(2), n, 1 + below(n));
+    trial.scratch_length = LONG;
+    fill_long_scratch(LONG, 0);
+    long_scratch[place] = wanted_scratch[place] = (uint8_t)(1 + below(255));
+    uint16_t got = make_call(&trial, trial.table, long_scratch);
+    record(got == make_reference_call(&trial, trial.table, wanted_scratch), "result with a dirty byte in long scratch");
+    record(cippazhey_refusal_of(got) == (place < power(n) ? 19 : 0), "dirty byte in long scratch");
+    record(memcmp(long_scratch, wanted_scratch, LONG) == 0, "long scratch with a dirty byte");
 }
 
 static void long_buffers(void) {
     for (uint32_t n = 1; n <= 8; n++) {
+        const size_t places[] = {0, power(n) - 1, power(n), 256, 256 + power(n) - 1, 512, 65535, 65536, 65536 + power(n) - 1};
         long_buffers_at(n, 256);
         long_buffers_at(n, 512);
         long_buffers_at(n, 65536);
+        for (size_t each = 0; each < sizeof places / sizeof *places; each++) {
+            dirt_in_long_scratch(n, places[each]);
+        }
+    }
+}
+
+// Calls in a row on one scratch: each needs it cleared.
+
+static bool all_zero(const uint8_t *bytes, size_t length) {
+    for (size_t place = 0; place < length; place++) {
+        if (bytes[place] != 0) {
+            return false;
+        }
+    }
+    return true;
+}
+
+// A call on its trial's own scratch.
+static uint16_t call_on_own_scratch(struct trial *trial, uint32_t method, uint32_t b) {
+    trial->number[METHOD] = method;
+    trial->number[B] = b;
+    return make_call(trial, trial->table, trial->scratch);
+}
+
+// What a call leaves is never all zero, since method 2 leaves every value and method 3 both bits. So neither method takes it.
+static void calls_on_used_scratch(struct trial *trial, uint32_t method, uint32_t b, const uint8_t left[LONGEST]) {
+    const uint16_t dirty = 256 * CIPPAZHEY_REFUSED_DIRTY_SCRATCH;
+    record(call_on_own_scratch(trial, method, b) == dirty, "the same call on what the first left");
+    record(call_on_own_scratch(trial, 5 - method, 0) == dirty, "the other method on what the first left");
+    record(memcmp(trial->scratch, left, LONGEST) == 0, "scratch after two refused calls");
+}
+
+static void clear_scratch(struct trial *trial, size_t length, const uint8_t left[LONGEST]) {
+    cippazhey_clear(trial->scratch, length);
+    record(all_zero(trial->scratch, length), "scratch cleared");
+    record(memcmp(trial->scratch + length, left + length, LONGEST - length) == 0, "what stands behind the cleared scratch");
+}
+
+static void calls_in_a_row_at(struct trial trial, uint32_t method, uint32_t b) {
+    uint8_t left[LONGEST];
+    uint16_t share = call_on_own_scratch(&trial, method, b);
+    record(cippazhey_refusal_of(share) == CIPPAZHEY_ACCEPTED, "first call");
+    memcpy(left, trial.scratch, LONGEST);
+    calls_on_used_scratch(&trial, method, b, left);
+    clear_scratch(&trial, power(trial.number[N]), left);
+    record(call_on_own_scratch(&trial, method, b) == share, "the first call again on cleared scratch");
+    record(memcmp(trial.scratch, left, LONGEST) == 0, "what the first call leaves again");
+    clear_scratch(&trial, trial.scratch_length, left);
+    record(call_on_own_scratch(&trial, 5 - method, 0) == share, "the other method on cleared scratch");
+}
+
+static void calls_in_a_row(void) {
+    for (uint32_t n = 1; n <= 8; n++) {
+        for (uint32_t m = 1; m <= n; m++) {
+            struct trial trial = accepted(2, n, m);
+            trial.scratch_length += below(LONGEST - 256);
+            calls_in_a_row_at(trial, 2, 0);
+            calls_in_a_row_at(trial, 3, 0);
+            calls_in_a_row_at(trial, 3, 1);
+        }
     }
 }
 
@@ -205,8 +351,9 @@ static void every_table(uint32_t n, uint32_t m, uint32_t balanced_tables) {
         tables *= power(m) + 1;
     }
     for (uint32_t code = 0; code < tables; code++) {
-        struct trial trial = {{2, n, m, 0, 0, 0, 0, 0, 0, 0}, {0}, power(n), power(n) + code % 3};
+        struct trial trial = {{2, n, m, 0, 0, 0, 0, 0, 0, 0}, {0}, {0}, power(n), power(n) + code % 3};
         uint32_t rest = code;
+        make_dirty(&trial, power(n));
         for (uint32_t place = 0; place < power(n); place++) {
             trial.table[place] = (uint8_t)(rest % (power(m) + 1));
             rest /= power(m) + 1;
@@ -234,11 +381,13 @@ static uint32_t boundary(void) {
 }
 
 static void damage(struct trial *trial, uint32_t n) {
-    switch (below(8)) {
+    switch (below(10)) {
     case 0: trial->table_length = (const size_t[]){0, power(n) - 1, power(n) + 1}[below(3)]; break;
     case 1: trial->table[below(power(n))] = (uint8_t)below(256); break;
     case 2: trial->table[below(power(n))] = trial->table[below(power(n))]; break;
     case 3: trial->scratch_length = below(4) == 0 ? 0 : power(n) - 1; break;
+    case 4: trial->scratch[below(power(n))] = (uint8_t)below(256); break;
+    case 5: make_dirty(trial, below(LONGEST)); break;
     default: trial->number[below(NUMBERS)] = boundary(); break;
     }
 }
@@ -268,14 +417,15 @@ static const struct group {
     void (*run)(void);
     unsigned long comparisons;
 } groups[] = {
-    {"bench_sheet", bench_sheet, 13},
-    {"neighbours_of_refusals", neighbours, 21536},
-    {"several_faults_at_once", several_faults, 6138},
-    {"long_buffers", long_buffers, 72},
+    {"bench_sheet", bench_sheet, 17},
+    {"neighbours_of_refusals", neighbours, 30004},
+    {"several_faults_at_once", several_faults, 12282},
+    {"long_buffers", long_buffers, 288},
     {"small_widths_whole", small_widths, 314446},
-    {"random_calls", random_calls, 100011},
+    {"calls_in_a_row", calls_in_a_row, 1188},
+    {"random_calls", random_calls, 100012},
 };
-enum { GROUPS = sizeof groups / sizeof *groups, COMPARISONS = 442216 };
+enum { GROUPS = sizeof groups / sizeof *groups, COMPARISONS = 458237 };
 
 static void run_group(const struct group *group) {
     unsigned long passed_before = passed, failed_before = failed;

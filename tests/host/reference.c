@@ -1,4 +1,5 @@
-// The plain call in plain C, written from the scope document alone. It is made to be read, not to be fast or to hide anything.
+// The plain call in plain C, written from the scope document and its later requests alone. It is made to be read, not to be fast or to
+// hide anything.
 #include "reference.h"
 
 #include <stdbool.h>
@@ -64,7 +65,29 @@ static unsigned mask_refusal(struct lookup call) {
     return 0;
 }
 
-static unsigned refusal(struct lookup call, size_t scratch_length) {
+// Whether the first bytes of scratch, so many, are zero.
+static bool clean(const uint8_t *scratch, size_t bytes) {
+    for (size_t place = 0; place < bytes; place++) {
+        if (scratch[place] != 0) {
+            return false;
+        }
+    }
+    return true;
+}
+
+// Asked only once n is known to be from 1 to 8.
+static unsigned scratch_refusal(struct lookup call, const uint8_t *scratch, size_t scratch_length) {
+    size_t entries = (size_t)1 << call.n;
+    if (scratch_length < entries) {
+        return 13;
+    }
+    if (!clean(scratch, entries)) {
+        return 19;
+    }
+    return 0;
+}
+
+static unsigned refusal(struct lookup call, const uint8_t *scratch, size_t scratch_length) {
     unsigned number = table_refusal(call);
     if (number != 0) {
         return number;
@@ -73,10 +96,7 @@ static unsigned refusal(struct lookup call, size_t scratch_length) {
     if (number != 0) {
         return number;
     }
-    if (scratch_length < (size_t)1 << call.n) {
-        return 13;
-    }
-    return 0;
+    return scratch_refusal(call, scratch, scratch_length);
 }
 
 static uint8_t masked_entry(struct lookup call, uint32_t place) {
@@ -106,7 +126,7 @@ static uint8_t method_3(struct lookup call, uint8_t *scratch) {
 }
 
 uint16_t reference_plain_call(struct lookup call, uint8_t *scratch, size_t scratch_length) {
-    unsigned number = refusal(call, scratch_length);
+    unsigned number = refusal(call, scratch, scratch_length);
     if (number != 0) {
         return (uint16_t)(number * 256);
     }

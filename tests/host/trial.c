@@ -46,9 +46,21 @@ static void fill_balanced(uint8_t *table, size_t entries, size_t values) {
     }
 }
 
+// Bytes of which none is zero. They differ from place to place, and by the first of them from one filling to the next.
+static void fill_dirty(uint8_t *bytes, size_t count) {
+    uint32_t first = below(255);
+    for (size_t place = 0; place < count; place++) {
+        bytes[place] = (uint8_t)(1 + (first + place * 7) % 255);
+    }
+}
+
+void make_dirty(struct trial *trial, size_t from) {
+    fill_dirty(trial->scratch + from, LONGEST - from);
+}
+
 struct trial accepted(uint32_t method, uint32_t n, uint32_t m) {
     uint32_t entries = power(n), values = power(m);
-    struct trial trial = {{method, n, m, 0, 0, 0, 0, 0, 0, method == 3 ? below(2) : 0}, {0}, entries, entries};
+    struct trial trial = {{method, n, m, 0, 0, 0, 0, 0, 0, method == 3 ? below(2) : 0}, {0}, {0}, entries, entries};
     trial.number[X0] = below(entries);
     trial.number[R1] = below(entries);
     trial.number[R2] = below(entries);
@@ -56,6 +68,7 @@ struct trial accepted(uint32_t method, uint32_t n, uint32_t m) {
     trial.number[S1] = below(values);
     trial.number[S2] = below(values);
     fill_balanced(trial.table, entries, values);
+    make_dirty(&trial, entries);
     return trial;
 }
 
@@ -85,23 +98,35 @@ static bool joins(const struct trial *trial, unsigned share) {
     return (share ^ number[S1] ^ number[S2]) == trial->table[secret];
 }
 
+// How many bytes of the lent scratch are zero before the first that is not.
+static size_t zeros(const struct trial *trial) {
+    size_t count = 0;
+    while (count < trial->scratch_length && trial->scratch[count] == 0) {
+        count++;
+    }
+    return count;
+}
+
 static void show(const struct trial *trial, unsigned got, unsigned wanted) {
     printf("got %u, %u and not %u, %u from", got / 256, got % 256, wanted / 256, wanted % 256);
     for (int place = 0; place < NUMBERS; place++) {
         printf(" %lu", (unsigned long)trial->number[place]);
     }
-    printf(", table of %lu, scratch of %lu\n", (unsigned long)trial->table_length, (unsigned long)trial->scratch_length);
+    printf(", table of %lu, scratch of %lu, zero up to %lu\n", (unsigned long)trial->table_length,
+           (unsigned long)trial->scratch_length, (unsigned long)zeros(trial));
+}
+
+// A buffer's bytes between guards. No guard is zero: scratch that is looked at beyond its ends is not clean.
+static void lay_out(uint8_t room[ROOM], const uint8_t *bytes, size_t length) {
+    fill_dirty(room, ROOM);
+    memcpy(room + GUARD, bytes, length);
 }
 
 // Makes the call both ways; `scratch` receives what the exported call leaves. Whether all is the same, and the result.
 static bool agrees(const struct trial *trial, uint8_t scratch[LONGEST], uint16_t *result) {
     uint8_t before[ROOM], after[ROOM], wanted[LONGEST], table[ROOM], lent_table[ROOM];
-    uint8_t first = (uint8_t)below(256), table_first = (uint8_t)below(256);
-    for (size_t place = 0; place < ROOM; place++) {
-        before[place] = (uint8_t)(first + place * 7);
-        table[place] = (uint8_t)(table_first + place * 5);
-    }
-    memcpy(table + GUARD, trial->table, trial->table_length);
+    lay_out(before, trial->scratch, trial->scratch_length);
+    lay_out(table, trial->table, trial->table_length);
     memcpy(lent_table, table, ROOM);
     memcpy(after, before, ROOM);
     memcpy(wanted, before + GUARD, LONGEST);

@@ -10,10 +10,10 @@ enum { METHOD, N, M, X0, R1, R2, S1, S2, R3, B, NUMBERS };
 // The longest table and scratch of a trial.
 enum { LONGEST = 600 };
 
-// A call to make: its numbers in the order of the parameters, its table, and the lengths to lend.
+// A call to make: its numbers in the order of the parameters, what table and scratch hold, and the lengths to lend.
 struct trial {
     uint32_t number[NUMBERS];
-    uint8_t table[LONGEST];
+    uint8_t table[LONGEST], scratch[LONGEST];
     size_t table_length, scratch_length;
 };
 
@@ -29,7 +29,11 @@ uint32_t below(uint32_t limit);
 // 2 to the exponent.
 uint32_t power(uint32_t exponent);
 
-// A call that is accepted: random masks, a random balanced table, and scratch that just suffices.
+// Fills scratch from a place on, as far as any length, with bytes of which none is zero.
+void make_dirty(struct trial *trial, size_t from);
+
+// A call that is accepted: random masks, a random balanced table, and scratch that just suffices. Scratch is zero in its first 2^n bytes
+// and dirty behind them, so that it shows where a call that is lent more looks or writes there.
 struct trial accepted(uint32_t method, uint32_t n, uint32_t m);
 
 // The result of the exported call and of the reference, on the buffers given.

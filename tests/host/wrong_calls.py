@@ -16,8 +16,12 @@ COMPILE = ["cc", "-std=c99", "-O2", f"-I{HOST}", f"-I{HOST.parents[1] / 'include
 RENAMED = "-Dreference_plain_call=wrong_plain_call"
 
 # The reference's lines that the edits put something before or after.
-FIRST_LINE = "    unsigned number = refusal(call, scratch_length);\n"
+FIRST_LINE = "    unsigned number = refusal(call, scratch, scratch_length);\n"
 TABLE_CHECKED = "    unsigned number = table_refusal(call);\n"
+MASKS_CHECKED = "    number = mask_refusal(call);\n"
+LENGTH_CHECK = "    if (scratch_length < entries) {\n"
+CLEAN_CHECK = "    if (!clean(scratch, entries)) {\n"
+REFUSED = "    if (number != 0) {\n        return (uint16_t)"
 LAST_LINE = "    return share;\n"
 
 
@@ -30,13 +34,44 @@ def check_before(line, condition, number):
     return before(line, f"if ({condition}) {{ return {number}; }}")
 
 
+# What is done at each byte of scratch, up to a length.
+def each_byte(length, statement):
+    return f"for (size_t at = 0; at < {length}; at++) {{ {statement} }}"
+
+
+# Other bytes than the first 2^n are looked at.
+def looks_at(bytes):
+    return CLEAN_CHECK, CLEAN_CHECK.replace("scratch, entries", bytes)
+
+
+# The first 2^n bytes are looked at under a condition only.
+def looks_if(condition):
+    return CLEAN_CHECK, CLEAN_CHECK.replace("(!", f"({condition} && !")
+
+
+# Bytes far behind 2^n are looked at, since the place that is compared with 2^n is cut.
+def place_cut(limit):
+    return before(CLEAN_CHECK, each_byte("scratch_length", f"if (at % {limit} < entries && scratch[at] != 0) {{ return 19; }}"))
+
+
+# The bytes are joined into one, and that is looked at.
+def looks_at_joined(operation):
+    return before(CLEAN_CHECK, "uint8_t all = 0;", each_byte("entries", f"all {operation} scratch[at];"), "if (all == 0) { return 0; }")
+
+
+# Whether scratch is dirty, asked before n and its length are known to be right.
+DIRTY = "call.n <= 8 && scratch_length >= (size_t)1 << call.n && !clean(scratch, (size_t)1 << call.n)"
+# The same of scratch that is too short.
+DIRTY_AS_FAR_AS_IT_GOES = "!clean(scratch, scratch_length < entries ? scratch_length : entries)"
+CLEAR = each_byte("(size_t)1 << call.n", "scratch[at] = 0;")
+
 NUMBERS = ("method", "n", "m", "x0", "r1", "r2", "s1", "s2", "r3", "b")
 BENCH_SHEET = {
     "wrong share, method 2": ("return scratch[call.r3];", "return scratch[call.r3] ^ 1;"),
     "the other register": ("return registers[call.b];", "return registers[1 - call.b];"),
     "one fixed share": (LAST_LINE, "    return 2;\n"),
     "all refused": (FIRST_LINE, "    unsigned number = 2;\n"),
-    "unbalanced tables accepted": ("            return false;", "            return true;"),
+    "unbalanced tables accepted": ("!= entries) {\n            return false;", "!= entries) {\n            return true;"),
     "scratch untouched": before("    uint8_t share = call", "uint8_t other[256];", "scratch = other;"),
     "b ignored": before("    uint8_t registers[2]", "call.b = 0;"),
     "r3 ignored": before("    uint32_t r_prime", "call.r3 = 0;"),
@@ -44,22 +79,43 @@ BENCH_SHEET = {
     "a byte past 2^n": before(LAST_LINE, "scratch[(size_t)1 << call.n] ^= 1;"),
     "the byte before scratch": before(LAST_LINE, "scratch[-1] ^= 1;"),
     "the byte behind scratch": before(LAST_LINE, "scratch[scratch_length] ^= 1;"),
+    "dirty scratch accepted": ("return 19;", "return 0;"),
+    "the first byte of four not looked at": looks_at("scratch + 1, entries - 1"),
+    "the last byte of four not looked at": looks_at("scratch, entries - 1"),
+    "the byte behind four looked at": looks_at("scratch, entries + (scratch_length > entries)"),
+    "19 for a short scratch": check_before(LENGTH_CHECK, DIRTY_AS_FAR_AS_IT_GOES, 19),
     "a table entry": before(LAST_LINE, "((uint8_t *)call.table)[0] ^= 1;"),
     "the byte before the table": before(LAST_LINE, "((uint8_t *)call.table)[-1] ^= 1;"),
     "the byte behind the table": before(LAST_LINE, "((uint8_t *)call.table)[call.table_length] ^= 1;"),
 }
 NEIGHBOURS = {
     "10 for 11": ("return 11;", "return 10;"),
-    "13 at 2^n": ("scratch_length < (size_t)1 << call.n", "scratch_length <= (size_t)1 << call.n"),
+    "13 at 2^n": ("scratch_length < entries", "scratch_length <= entries"),
     "b = 1 under method 2": ("call.method == 2 && call.b > 0", "call.method == 2 && call.b > 1"),
     "long tables accepted": ("call.table_length != entries", "call.table_length < entries"),
     "m up to 8": ("call.m > call.n", "call.m > 8"),
     "x0 up to 255": ("call.x0 >= entries", "call.x0 >= 256"),
     "2^m allowed in the table": ("call.table[place] >= values", "call.table[place] > values"),
     "a share beside the refusal": ("number * 256", "number * 256 + 1"),
-    "scratch written on refusal": before(
-        "    if (number != 0) {\n        return (uint16_t)", "if (number != 0 && scratch_length > 0) { scratch[0] ^= 1; }"
-    ),
+    "scratch written on refusal": before(REFUSED, "if (number != 0 && scratch_length > 0) { scratch[0] ^= 1; }"),
+    "13 for 19": ("return 19;", "return 13;"),
+    "14 for 19": ("return 19;", "return 14;"),
+    "19 with one byte fewer": looks_at("scratch, entries - 1"),
+    "19 without the first byte": looks_at("scratch + 1, entries - 1"),
+    "19 with one byte more": looks_at("scratch, entries + (scratch_length > entries)"),
+    "19 by the whole scratch": looks_at("scratch, scratch_length"),
+    "19 by the end of scratch": looks_at("scratch + scratch_length - entries, entries"),
+    "19 by 2^m bytes": looks_at("scratch, (size_t)1 << call.m"),
+    "19 by every second byte": ("place < bytes; place++", "place < bytes; place += 2"),
+    "19 by 1 alone": ("scratch[place] != 0", "scratch[place] == 1"),
+    "19 by odd bytes": ("scratch[place] != 0", "scratch[place] % 2 != 0"),
+    "19 by bytes below 128": ("scratch[place] != 0", "(int8_t)scratch[place] > 0"),
+    "19 by bytes from 128 on": ("scratch[place] != 0", "scratch[place] >= 128"),
+    "19 by the bytes' sum": looks_at_joined("+="),
+    "19 by the bytes' exclusive or": looks_at_joined("^="),
+    "19 under method 2 alone": looks_if("call.method == 2"),
+    "19 under method 3 alone": looks_if("call.method == 3"),
+    "19 and the scratch cleared": before(REFUSED, f"if (number == 19) {{ {CLEAR} }}"),
     "widths as distances of a shift": before(FIRST_LINE, "call.n &= 31;"),
     **{f"{name} cut to 8 bits": before(FIRST_LINE, f"call.{name} &= 255;") for name in NUMBERS},
     **{f"{name} cut to 16 bits": before(FIRST_LINE, f"call.{name} &= 65535;") for name in ("method", "n", "m", "x0", "b")},
@@ -74,7 +130,12 @@ SEVERAL_FAULTS = {
     "6 before 5": check_before("    if (call.table_length", "call.table[0] >= values", 6),
     "11 before 10": check_before("    if (call.x0 >=", "call.s1 >= values || call.s2 >= values", 11),
     "12 before 11": check_before("    if (call.s1 >=", "call.b > 1", 12),
-    "13 before 12": check_before("    number = mask_refusal(call);\n", "scratch_length < (size_t)1 << call.n", 13),
+    "13 before 12": check_before(MASKS_CHECKED, "scratch_length < (size_t)1 << call.n", 13),
+    "19 before 13": check_before(LENGTH_CHECK, DIRTY_AS_FAR_AS_IT_GOES, 19),
+    "19 before 12": (MASKS_CHECKED, MASKS_CHECKED + f"    if (number == 12 && {DIRTY}) {{ return 19; }}\n"),
+    "19 before 10": check_before(MASKS_CHECKED, DIRTY, 19),
+    "19 before 7": (TABLE_CHECKED, TABLE_CHECKED + f"    if (number == 7 && {DIRTY}) {{ return 19; }}\n"),
+    "19 before 2": check_before(TABLE_CHECKED, DIRTY, 19),
     "10 before 7": (TABLE_CHECKED, TABLE_CHECKED + "    if (number == 7 && mask_refusal(call) == 10) { return 10; }\n"),
 }
 LONG_BUFFERS = {
@@ -82,6 +143,10 @@ LONG_BUFFERS = {
     "table length cut to 16 bits": before(FIRST_LINE, "call.table_length &= 65535;"),
     "scratch length cut to 8 bits": before(FIRST_LINE, "scratch_length &= 255;"),
     "scratch length cut to 16 bits": before(FIRST_LINE, "scratch_length &= 65535;"),
+    "place of a dirty byte cut to 8 bits": place_cut(256),
+    "place of a dirty byte cut to 16 bits": place_cut(65536),
+    "256 bytes looked at": looks_at("scratch, scratch_length < 256 ? scratch_length : 256"),
+    "long scratch not looked at": looks_if("scratch_length <= 65536"),
     "all of scratch written": before("    uint8_t share = call", "for (size_t at = 0; at < scratch_length; at++) { scratch[at] = 0; }"),
 }
 SMALL_WIDTHS = {
@@ -90,7 +155,16 @@ SMALL_WIDTHS = {
     "only the count of 0": ("value < values; value++", "value < 1; value++"),
     "method 2 where b is 0": before(FIRST_LINE, "call.method = call.method == 3 && call.b == 0 ? 2 : call.method;"),
 }
+CALLS_IN_A_ROW = {
+    "a call after an accepted one not checked": before(
+        REFUSED, "static bool used;", "if (used && number == 19) { number = 0; }", "used = number == 0;"
+    ),
+    "dirty scratch cleared for the next call": before(REFUSED, f"if (number == 19) {{ {CLEAR} }}"),
+    "method 3's bytes taken for clean": ("scratch[place] != 0", "scratch[place] > 1"),
+    "scratch left clean": before(LAST_LINE, CLEAR),
+}
 RANDOM_CALLS = {
+    "one dirty place at one width": before(CLEAN_CHECK, "if (call.n == 6 && scratch[37] && clean(scratch, 37)) { return 0; }"),
     "one x0 at one width": before(LAST_LINE, "share ^= call.n == 7 && call.x0 == 77;"),
     "one byte of a long scratch": before(LAST_LINE, "scratch[scratch_length > 500 ? 500 : 0] ^= scratch_length > 500;"),
 }
@@ -100,15 +174,30 @@ WRONG_CALLS = {
     "several_faults_at_once": SEVERAL_FAULTS,
     "long_buffers": LONG_BUFFERS,
     "small_widths_whole": SMALL_WIDTHS,
+    "calls_in_a_row": CALLS_IN_A_ROW,
     "random_calls": RANDOM_CALLS,
 }
 # Those that the reference is given too: the scope's figures, and the share joined with its masks, must notice them.
 COMMON_FAULTS = {
-    "bench_sheet": {"scratch cleared": before("    return registers[call.b];", "scratch[call.r3] = 0;")},
-    "neighbours_of_refusals": {name: NEIGHBOURS[name] for name in ("10 for 11", "scratch written on refusal")},
-    "several_faults_at_once": {name: SEVERAL_FAULTS[name] for name in ("13 before 12",)},
-    "long_buffers": {name: LONG_BUFFERS[name] for name in ("table length cut to 16 bits",)},
+    "bench_sheet": {
+        "scratch cleared": before("    return registers[call.b];", "scratch[call.r3] = 0;"),
+        "dirty scratch accepted": BENCH_SHEET["dirty scratch accepted"],
+    },
+    "neighbours_of_refusals": {
+        name: NEIGHBOURS[name]
+        for name in (
+            "10 for 11",
+            "scratch written on refusal",
+            "13 for 19",
+            "19 with one byte fewer",
+            "19 with one byte more",
+            "19 and the scratch cleared",
+        )
+    },
+    "several_faults_at_once": {name: SEVERAL_FAULTS[name] for name in ("13 before 12", "19 before 13", "19 before 12")},
+    "long_buffers": {name: LONG_BUFFERS[name] for name in ("table length cut to 16 bits", "place of a dirty byte cut to 16 bits")},
     "small_widths_whole": {name: SMALL_WIDTHS[name] for name in ("only the count of 0",)},
+    "calls_in_a_row": CALLS_IN_A_ROW,
     "random_calls": {name: RANDOM_CALLS[name] for name in ("one x0 at one width",)},
 }
 
