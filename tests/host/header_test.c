@@ -1,42 +1,47 @@
-// The header against the archive, in C and in C++: the call's type, each number of the enum, the scratch length, the names of the
-// parameters, and the helpers. Prints a line for each that is wrong; exits with 1 if one is. Compile it with CALL_BY_NAME, a call whose
-// arguments are the names of the parameters in the header's order.
+// The header against the archive, in C and in C++: the calls' types, each number of the enum, the scratch length, the names of the
+// parameters, and the helpers. Prints a line for each that is wrong; exits with 1 if one is. Compile it with CALL_BY_NAME and
+// CLEAR_BY_NAME, calls whose arguments are the names of the parameters in the header's order.
 #include "cippazhey.h"
 #include "cippazhey.h" // twice, for its guard
 
 #include <stdio.h>
 
-// The type that the archive's call has: a header that says another does not compile.
+// The types that the archive's calls have: a header that says another does not compile.
 typedef uint16_t plain_call(uint32_t, uint32_t, uint32_t, uint32_t, uint32_t, uint32_t, uint32_t, uint32_t, uint32_t, uint32_t,
                             const uint8_t *, size_t, uint8_t *, size_t);
 static plain_call *const typed_call = cippazhey_plain_call;
+typedef void clear_call(uint8_t *, size_t);
+static clear_call *const typed_clear = cippazhey_clear;
 
 enum { METHOD, N, M, X0, R1, R2, S1, S2, R3, B, NUMBERS };
 
-// A call at n = 3, m = 1: its result, its numbers in the order above, its table, and the lengths of table and scratch.
+// A call at n = 3, m = 1: its result, its numbers in the order above, its table, the lengths of table and scratch, and the last byte of
+// scratch. The others are zero.
 struct trial {
     unsigned refusal, share;
     uint32_t number[NUMBERS];
     const uint8_t *table;
     size_t table_length, scratch_length;
+    uint8_t last_byte;
 };
 
 static const uint8_t balanced[] = {0, 0, 1, 0, 1, 1, 0, 1};
 static const uint8_t entry_2[] = {0, 0, 1, 0, 1, 1, 0, 2};
 static const uint8_t unbalanced[] = {0, 0, 1, 0, 1, 1, 0, 0};
 static const struct trial trials[] = {
-    {CIPPAZHEY_ACCEPTED, 0, {3, 3, 1, 6, 1, 5, 1, 0, 4, 0}, balanced, 8, 8},
-    {CIPPAZHEY_ACCEPTED, 1, {2, 3, 1, 6, 1, 3, 0, 0, 3, 0}, balanced, 8, 8},
-    {CIPPAZHEY_REFUSED_METHOD, 0, {4, 3, 1, 6, 1, 5, 1, 0, 4, 1}, balanced, 8, 8},
-    {CIPPAZHEY_REFUSED_INPUT_WIDTH, 0, {3, 9, 1, 6, 1, 5, 1, 0, 4, 1}, balanced, 8, 8},
-    {CIPPAZHEY_REFUSED_OUTPUT_WIDTH, 0, {3, 3, 4, 6, 1, 5, 1, 0, 4, 1}, balanced, 8, 8},
-    {CIPPAZHEY_REFUSED_TABLE_LENGTH, 0, {3, 3, 1, 6, 1, 5, 1, 0, 4, 1}, balanced, 7, 8},
-    {CIPPAZHEY_REFUSED_TABLE_ENTRY, 0, {3, 3, 1, 6, 1, 5, 1, 0, 4, 1}, entry_2, 8, 8},
-    {CIPPAZHEY_REFUSED_UNBALANCED_TABLE, 0, {3, 3, 1, 6, 1, 5, 1, 0, 4, 1}, unbalanced, 8, 8},
-    {CIPPAZHEY_REFUSED_INPUT_SHARE, 0, {3, 3, 1, 8, 1, 5, 1, 0, 4, 1}, balanced, 8, 8},
-    {CIPPAZHEY_REFUSED_OUTPUT_MASK, 0, {3, 3, 1, 6, 1, 5, 2, 0, 4, 1}, balanced, 8, 8},
-    {CIPPAZHEY_REFUSED_BIT, 0, {3, 3, 1, 6, 1, 5, 1, 0, 4, 2}, balanced, 8, 8},
-    {CIPPAZHEY_REFUSED_SCRATCH_LENGTH, 0, {3, 3, 1, 6, 1, 5, 1, 0, 4, 1}, balanced, 8, 7},
+    {CIPPAZHEY_ACCEPTED, 0, {3, 3, 1, 6, 1, 5, 1, 0, 4, 0}, balanced, 8, 8, 0},
+    {CIPPAZHEY_ACCEPTED, 1, {2, 3, 1, 6, 1, 3, 0, 0, 3, 0}, balanced, 8, 8, 0},
+    {CIPPAZHEY_REFUSED_METHOD, 0, {4, 3, 1, 6, 1, 5, 1, 0, 4, 1}, balanced, 8, 8, 0},
+    {CIPPAZHEY_REFUSED_INPUT_WIDTH, 0, {3, 9, 1, 6, 1, 5, 1, 0, 4, 1}, balanced, 8, 8, 0},
+    {CIPPAZHEY_REFUSED_OUTPUT_WIDTH, 0, {3, 3, 4, 6, 1, 5, 1, 0, 4, 1}, balanced, 8, 8, 0},
+    {CIPPAZHEY_REFUSED_TABLE_LENGTH, 0, {3, 3, 1, 6, 1, 5, 1, 0, 4, 1}, balanced, 7, 8, 0},
+    {CIPPAZHEY_REFUSED_TABLE_ENTRY, 0, {3, 3, 1, 6, 1, 5, 1, 0, 4, 1}, entry_2, 8, 8, 0},
+    {CIPPAZHEY_REFUSED_UNBALANCED_TABLE, 0, {3, 3, 1, 6, 1, 5, 1, 0, 4, 1}, unbalanced, 8, 8, 0},
+    {CIPPAZHEY_REFUSED_INPUT_SHARE, 0, {3, 3, 1, 8, 1, 5, 1, 0, 4, 1}, balanced, 8, 8, 0},
+    {CIPPAZHEY_REFUSED_OUTPUT_MASK, 0, {3, 3, 1, 6, 1, 5, 2, 0, 4, 1}, balanced, 8, 8, 0},
+    {CIPPAZHEY_REFUSED_BIT, 0, {3, 3, 1, 6, 1, 5, 1, 0, 4, 2}, balanced, 8, 8, 0},
+    {CIPPAZHEY_REFUSED_SCRATCH_LENGTH, 0, {3, 3, 1, 6, 1, 5, 1, 0, 4, 1}, balanced, 8, 7, 0},
+    {CIPPAZHEY_REFUSED_DIRTY_SCRATCH, 0, {3, 3, 1, 6, 1, 5, 1, 0, 4, 1}, balanced, 8, 8, 1},
 };
 enum { TRIALS = sizeof trials / sizeof *trials };
 
@@ -56,7 +61,7 @@ static uint16_t by_name(const struct trial *trial) {
     uint32_t s1 = number[S1], s2 = number[S2], r3 = number[R3], b = number[B];
     const uint8_t *table = trial->table;
     size_t table_length = trial->table_length, scratch_length = trial->scratch_length;
-    uint8_t scratch[8] = {0};
+    uint8_t scratch[8] = {0, 0, 0, 0, 0, 0, 0, trial->last_byte};
     return CALL_BY_NAME;
 }
 
@@ -97,15 +102,30 @@ static void stated_scratch_length(void) {
         table[entry] = (uint8_t)(255 - entry);
     }
     uint16_t enough = typed_call(3, 8, 8, 90 ^ 17 ^ 34, 17, 34, 1, 2, 200, 1, table, 256, scratch, CIPPAZHEY_SCRATCH_LENGTH);
+    typed_clear(scratch, CIPPAZHEY_SCRATCH_LENGTH);
+    uint16_t again = typed_call(3, 8, 8, 90 ^ 17 ^ 34, 17, 34, 1, 2, 200, 1, table, 256, scratch, CIPPAZHEY_SCRATCH_LENGTH);
     uint16_t less = typed_call(3, 8, 8, 90 ^ 17 ^ 34, 17, 34, 1, 2, 200, 1, table, 256, scratch, CIPPAZHEY_SCRATCH_LENGTH - 1);
     hold(enough == 166, "result at the stated scratch length", enough);
+    hold(again == 166, "result on cleared scratch", again);
     hold(cippazhey_share_of(enough) == 166, "share at the stated scratch length", cippazhey_share_of(enough));
     hold(cippazhey_refusal_of(less) == CIPPAZHEY_REFUSED_SCRATCH_LENGTH, "refusal below the stated scratch length", less);
+}
+
+static void cleared_buffer(void) {
+    uint8_t room[] = {1, 2, 3, 4, 5};
+    uint8_t *buffer = room + 1;
+    size_t length = 3;
+    CLEAR_BY_NAME;
+    for (int place = 0; place < 5; place++) {
+        int beside = place == 0 || place == 4;
+        hold(room[place] == (beside ? place + 1 : 0), "place in or beside the cleared buffer", place);
+    }
 }
 
 int main(void) {
     numbers_of_the_enum();
     places_of_the_numbers();
     stated_scratch_length();
+    cleared_buffer();
     return wrong;
 }

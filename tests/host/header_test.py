@@ -1,5 +1,5 @@
 # Holds the C header to the archive and to the Rattle source. Run: python3 tests/host/header_test.py TEST ARCHIVE, where TEST is
-#   declaration   the declaration is the one that the source makes: the types, and the parameters' names in their order;
+#   declaration   the declarations are those that the source makes: the types, and the parameters' names in their order;
 #   c, c++        tests/host/header_test.c compiles with the header in that language, and passes;
 #   control       edited copies of the header, each of which those tests must notice.
 # The status is 0 if the test passes, and 1 otherwise, with what it found.
@@ -19,30 +19,41 @@ HEADER = ROOT / "include" / "cippazhey.h"
 SOURCE = ROOT / "crates" / "cippazhey" / "src" / "lib.rt"
 PROGRAM = ROOT / "tests" / "host" / "header_test.c"
 COMPILERS = {"c": ["cc", "-std=c99", "-x", "c"], "c++": ["c++", "-std=c++11", "-x", "c++"]}
+# The functions of the archive, and the macros by which the program calls them.
+CALLS = {"cippazhey_plain_call": "CALL_BY_NAME", "cippazhey_clear": "CLEAR_BY_NAME"}
 WARNINGS = ["-Wall", "-Wextra", "-Wpedantic", "-Werror"]
-# What a parameter of the source is in C. A slice is a pointer and a length.
-IN_C = {
-    "u32": "uint32_t {0}",
-    "&[u8]": "const uint8_t *{0}, size_t {0}_length",
-    "&mut [u8]": "uint8_t *{0}, size_t {0}_length",
+# What the source's parameters and results are in C. A slice is a pointer and a length.
+PARAMETER = {
+    "u32": "uint32_t {name}",
+    "&[u8]": "const uint8_t *{name}, size_t {length}",
+    "&mut [u8]": "uint8_t *{name}, size_t {length}",
 }
+RESULT = {"": "void", "u16": "uint16_t"}
 
 
+# The header's declarations, by the function's name. The functions that it defines are not among them.
 def declared(header):
-    found = re.findall(r"^\w+ cippazhey_plain_call\([^)]*\);", header, re.MULTILINE)
-    return " ".join(" ".join(found).split())
+    found = re.findall(r"^(\w[\w *]*?(\w+)\([^)]*\));", header, re.MULTILINE)
+    return {name: " ".join(declaration.split()) for declaration, name in found}
 
 
-# The declaration that the source makes.
-def wanted_declaration(source):
-    [parameters] = re.findall(r'pub extern "C" fn cippazhey_plain_call\(([^)]*)\) -> u16', source)
-    in_c = [IN_C[kind].format(name) for name, kind in re.findall(r"(\w+): ([^,]+),", parameters)]
-    return f"uint16_t cippazhey_plain_call({', '.join(in_c)});"
+# The parameters in C of those in the source. A length is called after its slice, or just length where the slice is all that is taken.
+def parameters_in_c(parameters):
+    named = re.findall(r"(\w+): ([^,]+)", parameters)
+    lengths = [f"{name}_length" if len(named) > 1 else "length" for name, _ in named]
+    return ", ".join(PARAMETER[kind.strip()].format(name=name, length=length) for (name, kind), length in zip(named, lengths))
+
+
+# The declarations that the source makes, by the function's name.
+def wanted_declarations(source):
+    functions = re.findall(r'pub extern "C" fn (\w+)\(([^)]*)\)(?: -> (\w+))?', source)
+    return {name: f"{RESULT[result]} {name}({parameters_in_c(parameters)})" for name, parameters, result in functions}
 
 
 def test_declaration(header):
-    got, wanted = declared(header), wanted_declaration(SOURCE.read_text())
-    return None if got == wanted else f"declared: {got}\nand not:  {wanted}"
+    got, wanted = declared(header), wanted_declarations(SOURCE.read_text())
+    wrong = [name for name in sorted({*got, *wanted}) if got.get(name) != wanted.get(name)]
+    return "\n".join(f"declared: {got.get(name)}\nand not:  {wanted.get(name)}" for name in wrong) or None
 
 
 # What a step that fails has to say, or None.
@@ -51,13 +62,18 @@ def complaint(*command):
     return done.stdout + f"status {done.returncode}" if done.returncode else None
 
 
+# A call whose arguments are the names of the parameters, in the header's order.
+def call_by_name(header, name):
+    names = re.findall(r"(\w+)[,)]", declared(header).get(name, ""))
+    return f"{name}({', '.join(names)})"
+
+
 def test_compiled(language, header, archive):
-    names = ", ".join(re.findall(r"(\w+)[,)]", declared(header)))
+    calls = [f"-D{macro}={call_by_name(header, name)}" for name, macro in CALLS.items()]
     with tempfile.TemporaryDirectory() as folder:
         (Path(folder) / HEADER.name).write_text(header)
         program = f"{folder}/header_test"
-        call = f"-DCALL_BY_NAME=cippazhey_plain_call({names})"
-        built = complaint(*COMPILERS[language], *WARNINGS, f"-I{folder}", call, PROGRAM, "-x", "none", archive, "-o", program)
+        built = complaint(*COMPILERS[language], *WARNINGS, f"-I{folder}", *calls, PROGRAM, "-x", "none", archive, "-o", program)
         return built or complaint(program)
 
 
@@ -71,6 +87,9 @@ EDITS = [
     (C, "#define CIPPAZHEY_SCRATCH_LENGTH 256", "#define CIPPAZHEY_SCRATCH_LENGTH 257"),
     (C, "#define CIPPAZHEY_SCRATCH_LENGTH 256", "#define CIPPAZHEY_SCRATCH_LENGTH 65536"),
     (C, "CIPPAZHEY_ACCEPTED = 0", "CIPPAZHEY_ACCEPTED = 1"),
+    (C + CPP, "CIPPAZHEY_REFUSED_DIRTY_SCRATCH = 19", "CIPPAZHEY_REFUSED_DIRTY_SCRATCH = 13"),
+    (C + CPP, "CIPPAZHEY_REFUSED_DIRTY_SCRATCH = 19", "CIPPAZHEY_REFUSED_DIRTY_SCRATCH = 14"),
+    (C + CPP, "CIPPAZHEY_REFUSED_DIRTY_SCRATCH = 19", "CIPPAZHEY_REFUSED_DIRTY_SCRATCH"),
     (DECLARATION + C + CPP, "uint16_t cippazhey_plain_call", "uint32_t cippazhey_plain_call"),
     (DECLARATION + C + CPP, "size_t scratch_length", "uint32_t scratch_length"),
     (DECLARATION + C + CPP, "size_t table_length", "uint32_t table_length"),
@@ -80,6 +99,18 @@ EDITS = [
     (DECLARATION + C, "uint32_t b,", "uint32_t bit,"),
     (DECLARATION + C, "uint32_t b,", ""),
     (DECLARATION + C, "cippazhey_plain_call(", "cippazhey_call("),
+    (DECLARATION + C + CPP, "void cippazhey_clear", "int cippazhey_clear"),
+    (DECLARATION + C + CPP, "void cippazhey_clear", "void *cippazhey_clear"),
+    (DECLARATION + C + CPP, "uint8_t *buffer", "const uint8_t *buffer"),
+    (DECLARATION + C + CPP, "uint8_t *buffer", "void *buffer"),
+    (DECLARATION + C + CPP, "size_t length", "uint32_t length"),
+    (DECLARATION + C + CPP, "uint8_t *buffer, size_t length", "size_t length, uint8_t *buffer"),
+    (DECLARATION + C + CPP, "uint8_t *buffer, size_t length", "uint8_t *buffer"),
+    (DECLARATION + C + CPP, "uint8_t *buffer", "uint8_t *bytes"),
+    (DECLARATION + C + CPP, "size_t length", "size_t buffer_length"),
+    (DECLARATION + C + CPP, "cippazhey_clear(", "cippazhey_clear_all("),
+    (DECLARATION + C + CPP, "void cippazhey_clear(uint8_t *buffer, size_t length);\n", ""),
+    (DECLARATION, "void cippazhey_clear(", "void cippazhey_other(void);\nvoid cippazhey_clear("),
     (C + CPP, "return result / 256u", "return result / 128u"),
     (C + CPP, "return (uint8_t)(result % 256u)", "return (uint8_t)(result % 128u)"),
     (C, "static inline unsigned", "inline unsigned"),
@@ -95,7 +126,7 @@ def exchanges(header):
     constants = re.findall(r"CIPPAZHEY_REFUSED_\w+", header)
     for pair in zip(constants, constants[1:]):
         yield C, *pair
-    numbers = re.findall(r"uint32_t \w+,", declared(header))
+    numbers = re.findall(r"uint32_t \w+,", declared(header)["cippazhey_plain_call"])
     for pair in itertools.combinations(numbers, 2):
         yield DECLARATION, *pair
     for pair in (("n", "m"), ("r3", "b"), ("method", "n"), ("m", "x0"), ("r2", "s1"), ("s2", "r3")):
