@@ -9,6 +9,7 @@ from pathlib import Path
 OVER_TABLES = {
     "table::tally",
     "table::joined_counts",
+    "call_checks::dirty",
     "method2::fill",
     "method2::logged::fill",
     "method3::prepare",
@@ -16,7 +17,10 @@ OVER_TABLES = {
     "method3::logged::select",
 }
 # The functions with a loop over something else, and what that is.
-OTHERS = {"log_entries::put": "the kinds and values of a row, slices of any length"}
+OTHERS = {
+    "log_entries::put": "the kinds and values of a row, slices of any length",
+    "buffers::clear": "a buffer of any length",
+}
 
 
 # A text of the form (word (word ..) ..), as lists in a list.

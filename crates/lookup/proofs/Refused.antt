@@ -19,7 +19,7 @@ use Rattle.lookup.specs.Refusals.{case-checks, case-refusal, plain-refus
 -- zeros are not dirty, whatever stands behind them
 pub zeros-clean : (k : ℕ) (rest : List ℕ) → dirty k (replicate k 0 ++ rest) ≡ false
 unfolding dirty
-zeros-clean k rest = rw (take-at (replicate k 0) rest k (length-replicate k 0)) (zeros-none k)
+zeros-clean k rest = rw (take-at (replicate k 0) rest k (length-replicate k 0)) (zeros-none k (omega arith))
 
 -- and what is not dirty is zeros
 pub clean-zeros : (k : ℕ) (scratch : List ℕ) → k ≤ length scratch → dirty k scratch ≡ false → take k scratch ≡ replicate k 0

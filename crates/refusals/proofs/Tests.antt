@@ -83,11 +83,11 @@ unfolding any-from
 any-either least [] ys = refl
 any-either least (x ∷ xs) ys = ap (λ t. leb least x || t) (any-either least xs ys) ∙ sym (or-assoc (leb least x) _ _)
 
--- none is nonzero: all are zeros
-pub zeros-none : (k : ℕ) → any-from 1 (replicate k 0) ≡ false
+-- of zeros none is the least or more, and where none is 1 or more all are zeros
+pub zeros-none : {least : ℕ} (k : ℕ) → 0 < least → any-from least (replicate k 0) ≡ false
 unfolding any-from
-zeros-none zero = refl
-zeros-none (suc k) = zeros-none k
+zeros-none zero h = refl
+zeros-none {least} (suc k) h = rw (lt-leb least 0 h) (zeros-none k h)
 
 pub none-nonzero : (xs : List ℕ) → any-from 1 xs ≡ false → xs ≡ replicate (length xs) 0
 none-nonzero [] e = refl
