@@ -17,7 +17,7 @@ enum { SILENT = 0, LEAKS = 1, UNKNOWN = 2, WRONG_USAGE = 3, LONGEST = 256, RANDO
 static uint8_t table[LONGEST], scratch[LONGEST];
 static uint16_t entries[2400];
 static const struct subject *subject;
-static uintptr_t *audited; // the addresses that the exhaustive cases at n = 2 executed, in order
+static uintptr_t *audited; // the addresses that the exhaustive cases above n = 1 executed, in order
 static size_t audited_count;
 
 struct widths {
@@ -41,19 +41,35 @@ struct study {
     bool (*way)(const struct trace *trace); // whether the way that all calls take will do, or NULL
 };
 
-// Steps through one call; whether it can be judged and its answer is the table's entry under both masks.
+// The scratch before a call: zeros, or what a call with the same numbers leaves of it.
+static void lend_scratch(struct widths w, uint32_t x, struct choice c) {
+    memset(scratch, 0, sizeof scratch);
+    if (!(subject->flags & (USED | CLEARS))) return;
+    for (uint32_t place = 0; place < 1u << w.n; place++)
+        scratch[place] = (uint8_t)(w.method == 2 ? table[x ^ c.r3 ^ place] ^ c.s1 ^ c.s2 : place == c.r3 ? c.b : 1 - c.b);
+}
+
+// The table's entry under both masks, 19 beside no share, or a scratch of zeros.
+static bool right_answer(uint32_t share, uint32_t result, size_t length) {
+    static const uint8_t zeros[LONGEST];
+    if (subject->flags & CLEARS) return !memcmp(scratch, zeros, length);
+    return result == (subject->flags & USED ? 19 * 256 : share);
+}
+
+// Steps through one call; whether it can be judged and its answer is right.
 static bool one_call(struct trace *trace, struct widths w, uint32_t x, struct choice c) {
     size_t length = (size_t)1 << w.n, log_length = 10 + (w.method == 2 ? 6 : 9) * length;
     struct call call = {subject->code,
                         {w.method, w.n, w.m, x ^ c.r1 ^ c.r2, c.r1, c.r2, c.s1, c.s2, c.r3, c.b, (uintptr_t)table, length,
                          (uintptr_t)scratch, length, (uintptr_t)entries, log_length},
                         {{"table", table, length}, {"scratch", scratch, length}, {"log", entries, 2 * log_length}}};
+    struct call clearing = {subject->code, {(uintptr_t)scratch, length}, {{"scratch", scratch, length}}};
     uint64_t result;
-    memset(scratch, 0, sizeof scratch);
+    lend_scratch(w, x, c);
     memset(entries, 0, sizeof entries);
-    const char *trouble = step_through(trace, &call, &result);
-    uint32_t share = subject->flags & LOGGED ? entries[log_length - 1] & 255u : (uint32_t)result & 65535u;
-    if (!trouble && share != (table[x] ^ c.s1 ^ c.s2) && watches(ANSWERS_PART)) trouble = "wrong answer";
+    const char *trouble = step_through(trace, subject->flags & CLEARS ? &clearing : &call, &result);
+    uint32_t answer = subject->flags & LOGGED ? entries[log_length - 1] & 255u : (uint32_t)result & 65535u;
+    if (!trouble && !right_answer(table[x] ^ c.s1 ^ c.s2, answer, length) && watches(ANSWERS_PART)) trouble = "wrong answer";
     if (!trouble) return true;
     printf("    %s: x = %u, r1 = %u, r2 = %u, r3 = %u, s1 = %u, s2 = %u, b = %u\n", trouble, x, c.r1, c.r2, c.r3, c.s1, c.s2, c.b);
     return false;
@@ -92,11 +108,11 @@ static void add_audited(const struct trace *trace) {
     qsort(audited, audited_count, sizeof *audited, by_address);
 }
 
-// Whether each address of the trace was executed by an exhaustive case at n = 2.
+// Whether each address of the trace was executed by an exhaustive case above n = 1.
 static bool all_audited(const struct trace *trace) {
     for (size_t i = 0; i < trace->steps; i++)
         if (!bsearch(&trace->addresses[i], audited, audited_count, sizeof *audited, by_address)) {
-            printf("    %#lx runs here and in no exhaustive case at n = 2\n", (unsigned long)trace->addresses[i]);
+            printf("    %#lx runs here and in no exhaustive case above n = 1\n", (unsigned long)trace->addresses[i]);
             return false;
         }
     return true;
@@ -125,9 +141,10 @@ static int exhaustive(struct widths w, const uint8_t *lent_table) {
     struct study study = {"exhaustive", w, {8, 32}, inputs, each, input_itself, choice_numbered, leaking_pairs, NULL};
     struct trace trace;
     if (subject->flags & LOGGED) study.division = (struct division){2, 2};
+    if (subject->flags & CLEARS) study.leaking = all_of_them;
     memcpy(table, lent_table, inputs);
     int found = carry_out(&study, &trace);
-    if (w.n == 2) add_audited(&trace);
+    if (w.n > 1) add_audited(&trace);
     end_trace(&trace);
     return found;
 }
@@ -171,10 +188,12 @@ static int linear(uint32_t method, bool same_code) {
 static int audit(uint32_t method, bool small, bool large) {
     static const struct {
         uint32_t n, m;
-        uint8_t table[4];
+        uint8_t table[8];
     } cases[] = {{1, 1, {1, 0}},       {2, 1, {0, 1, 1, 0}}, {2, 2, {2, 0, 3, 1}},
                  {1, 1, {0, 1}},       {2, 1, {1, 1, 0, 0}}, {2, 2, {0, 1, 3, 2}},
                  {2, 1, {0, 0, 0, 1}}, // not balanced: what leaks is whether the input is 3
+                 // Up to n = 2 every balanced table is affine, and then two leftovers of a call tell no more than one. This one is not.
+                 {3, 1, {0, 0, 0, 1, 0, 1, 1, 1}},
     };
     int found = SILENT;
     for (size_t i = subject->first; small && i < subject->first + subject->cases && found != UNKNOWN; i++) {

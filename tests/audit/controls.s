@@ -1,5 +1,5 @@
 # The controls: each handles its arguments in one way that one part of the audit alone can see, on its way to a call that is silent by itself.
-# A control has the name of its part (parts.h). Two parts have two, for the stack and for the lent scratch. The last three have none.
+# A control has the name of its part (parts.h). Two parts have two, for the stack and for the lent scratch. The last ones have none.
 #
 # At entry: edi method, esi n, edx m, ecx x0, r8d r1, r9d r2; on the stack, from 8(%rsp) on, 8 bytes each: s1, s2, r3, b, table, its
 # length, scratch, its length. x0 and r1 together leak with r2. mov, lea, bswap and vector instructions leave the flags as they are.
@@ -163,5 +163,44 @@ control vector_store
     and $3, %eax
     movq %xmm0, -32(%rsp,%rax)
     go_on
+
+# The controls of used scratch: each reads what an earlier call left, then r3, and refuses.
+    .macro refuse
+    mov 24(%rsp), %r10d
+    mov $4864, %eax
+    ret
+    .endm
+
+# Two leftovers are joined by bitwise or: beside r3 they tell the input, where the table is not affine.
+control joined_leftovers
+    mov 56(%rsp), %rax
+    movb 1(%rax), %r10b
+    or (%rax), %r10b
+    refuse
+
+# Silent, and must pass: the same two one after the other.
+control single_leftovers
+    mov 56(%rsp), %rax
+    movb 1(%rax), %r10b
+    movb (%rax), %r10b
+    refuse
+
+# The first leftover decides whether the second is read.
+control early_exit
+    mov 56(%rsp), %rax
+    cmpb $0, (%rax)
+    jne 1f
+    cmpb $0, 1(%rax)
+1:  refuse
+
+# A clear that reads what it clears. At entry: rdi the scratch, rsi its length.
+control reading_clear
+    cmpb $0, (%rdi)
+    jmp cippazhey_clear
+
+# A clear that leaves the last byte.
+control short_clear
+    dec %rsi
+    jmp cippazhey_clear
 
     .section .note.GNU-stack, "", @progbits

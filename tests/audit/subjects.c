@@ -1,4 +1,4 @@
-// The calls that can be audited: the library's two, C code that the audit must catch or pass, and the controls of its parts.
+// The calls that can be audited: the library's, C code that the audit must catch or pass, and the controls of its parts.
 #include "subjects.h"
 
 #include <stddef.h>
@@ -32,7 +32,13 @@
 #define ROW(name, cases) {#name, control_##name, 0, cases, CONTROL},
 
 CONTROLS(DECLARATION)
+void control_joined_leftovers(void);
+void control_single_leftovers(void);
+void control_early_exit(void);
+void control_reading_clear(void);
+void control_short_clear(void);
 void cippazhey_plain_call(void);
+void cippazhey_clear(void);
 void cippazhey_logged_call(void);
 void guarded_plain_call(void);
 void guarded_bare_call(void);
@@ -45,6 +51,15 @@ const struct subject *subject_named(const char *name) {
         {"guarded", guarded_plain_call, 0, 3, CONTROL | BY_WIDTH},
         {"unguarded", baseline_plain_call, 0, 3, CONTROL | BY_WIDTH},
         {"inputs", guarded_bare_call, 6, 1, CONTROL}, // it checks no table, so it looks up in an unbalanced one
+        {"used", cippazhey_plain_call, 7, 1, USED},
+        {"used_briefly", cippazhey_plain_call, 0, 2, USED}, // for method 3, whose leftovers no input changes
+        {"joined_leftovers", control_joined_leftovers, 7, 1, CONTROL | USED},
+        {"joined_leftovers_affine", control_joined_leftovers, 0, 3, CONTROL | USED},
+        {"single_leftovers", control_single_leftovers, 7, 1, CONTROL | USED},
+        {"early_exit", control_early_exit, 7, 1, CONTROL | USED},
+        {"clear", cippazhey_clear, 0, 3, CLEARS},
+        {"reading_clear", control_reading_clear, 0, 1, CONTROL | CLEARS},
+        {"short_clear", control_short_clear, 0, 1, CONTROL | CLEARS},
         CONTROLS(ROW)};
     for (size_t i = 0; i < sizeof subjects / sizeof *subjects; i++)
         if (!strcmp(subjects[i].name, name)) return &subjects[i];

@@ -33,12 +33,24 @@ static inline unsigned from(uint32_t limit, uint32_t value) {
     return at_least;
 }
 
+// The same check as the library's: no two bytes are joined, and none ends the loop.
+static unsigned dirty(const uint8_t *scratch, size_t length) {
+    uint8_t cells[2] = {0, 0};
+    for (size_t i = 0; i < length; i++) {
+        size_t cell = (scratch[i] + 255u) / 256;
+        BARRIER(cell);
+        cells[cell] = 1;
+    }
+    return cells[1];
+}
+
 static unsigned mask_refusal(uint32_t method, uint32_t inputs, uint32_t outputs, uint32_t x0, uint32_t r1, uint32_t r2, uint32_t s1,
-                             uint32_t s2, uint32_t r3, uint32_t b, size_t scratch_length) {
+                             uint32_t s2, uint32_t r3, uint32_t b, const uint8_t *scratch, size_t scratch_length) {
     if (from(inputs, x0) || from(inputs, r1) || from(inputs, r2) || from(inputs, r3)) return 10;
     if (from(outputs, s1) || from(outputs, s2)) return 11;
     if (b > method - 2) return 12;
-    return scratch_length < inputs ? 13 : 0;
+    if (scratch_length < inputs) return 13;
+    return dirty(scratch, inputs) ? 19 : 0;
 }
 
 static uint8_t plain_2(uint32_t n, size_t x0, size_t r1, size_t r2, uint8_t s1, uint8_t s2, size_t r3, const uint8_t *table, uint8_t *scratch) {
@@ -83,7 +95,7 @@ PLAIN_CALL(NAME(bare_call)) {
 PLAIN_CALL(NAME(plain_call)) {
     if (method != 2 && method != 3) return 2 * 256;
     unsigned number = table_refusal(n, m, table, table_length);
-    if (!number) number = mask_refusal(method, 1u << n, 1u << m, x0, r1, r2, s1, s2, r3, b, scratch_length);
+    if (!number) number = mask_refusal(method, 1u << n, 1u << m, x0, r1, r2, s1, s2, r3, b, scratch, scratch_length);
     return (uint16_t)(number ? number * 256 : bare(method, n, x0, r1, r2, s1, s2, r3, b, table, scratch));
 }
 
@@ -129,7 +141,7 @@ static uint8_t logged_3(uint32_t n, uint32_t x0, uint32_t r1, uint32_t r2, uint3
 LOGGED_CALL(NAME(logged_call)) {
     if (method != 2 && method != 3) return 2 * 256;
     unsigned number = table_refusal(n, m, table, table_length);
-    if (!number) number = mask_refusal(method, 1u << n, 1u << m, x0, r1, r2, s1, s2, r3, b, scratch_length);
+    if (!number) number = mask_refusal(method, 1u << n, 1u << m, x0, r1, r2, s1, s2, r3, b, scratch, scratch_length);
     if (!number && log_length < 10 + ((size_t)(method == 2 ? 6 : 9) << n)) number = 14;
     if (number) return (uint16_t)(number * 256);
     return method == 2 ? logged_2(n, x0, r1, r2, s1, s2, r3, table, scratch, log)

@@ -45,6 +45,7 @@ static void run(const char *kind, uint32_t method, uint32_t n, long times) {
     struct numbers c = {method, n, n, 90 & last, 60 & last, 7 & last, 33 & last, 18 & last, 201 & last, method - 2};
     for (unsigned i = 0; i <= last; i++) table[i] = (uint8_t)((i * 5 + 3) & last);
     for (long i = 0; i < times; i++) {
+        memset(scratch, 0, sizeof scratch); // in the harness, so that it is counted with no call
         unsigned result = call(kind, &c);
         if (result >= 256) exit(3);
         sink = result;
