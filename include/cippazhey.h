@@ -48,9 +48,9 @@ enum cippazhey_refusal {
 //   - table and scratch do not overlap, and nothing else touches them while the call runs.
 //   - r1, r2, r3, s1, s2, and b under method 3 are uniform, independent, and new for each call. No call can check that.
 //   - scratch is cleared before the first call, and after each accepted one as soon as it has returned. Otherwise the next
-//     call is refused. And what method 2 leaves beside the returned share is a share too many: byte r3 is that share, the
-//     others are the table's other entries under the same masks. Together they can tell s1 ^ s2 (for the S-box of AES they
-//     do), and that with the returned share gives table[x].
+//     call of that width is refused. And what method 2 leaves beside the returned share is a share too many: byte r3 is that
+//     share, the others are the table's other entries under the same masks. Together they can tell s1 ^ s2 (for the S-box of
+//     AES they do), and that with the returned share gives table[x].
 //
 // What is proved of the source:
 //   - Every call returns, and reads and writes only the bytes it is lent.

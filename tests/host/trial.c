@@ -162,6 +162,23 @@ void expect(const struct trial *trial, unsigned refusal, const char *what) {
     record(same && cippazhey_refusal_of(result) == refusal, what);
 }
 
+void expect_with(const struct trial *trial, int place, uint32_t number, unsigned refusal, const char *what) {
+    struct trial changed = *trial;
+    changed.number[place] = number;
+    expect(&changed, refusal, what);
+}
+
+void expect_lengths(struct trial trial, size_t table_length, size_t scratch_length, unsigned refusal, const char *what) {
+    trial.table_length = table_length;
+    trial.scratch_length = scratch_length;
+    expect(&trial, refusal, what);
+}
+
+void expect_dirt(struct trial trial, size_t place, uint8_t dirt, unsigned refusal, const char *what) {
+    trial.scratch[place] = dirt;
+    expect(&trial, refusal, what);
+}
+
 void expect_whole(const struct trial *trial, unsigned share, const uint8_t *bytes, const char *what) {
     uint8_t scratch[LONGEST];
     uint16_t result;

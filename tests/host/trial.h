@@ -47,6 +47,11 @@ uint16_t compare(const struct trial *trial, const char *what);
 // The same, and holds the refusal to a number.
 void expect(const struct trial *trial, unsigned refusal, const char *what);
 
+// The same of the call with one number changed, with other lengths lent, and with one byte of scratch changed.
+void expect_with(const struct trial *trial, int place, uint32_t number, unsigned refusal, const char *what);
+void expect_lengths(struct trial trial, size_t table_length, size_t scratch_length, unsigned refusal, const char *what);
+void expect_dirt(struct trial trial, size_t place, uint8_t dirt, unsigned refusal, const char *what);
+
 // The same, and holds the share and the scratch to their values.
 void expect_whole(const struct trial *trial, unsigned share, const uint8_t *bytes, const char *what);
 

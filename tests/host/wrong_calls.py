@@ -207,7 +207,7 @@ def build(*words):
 
 
 def build_objects(folder):
-    for name in ("plain_call_test", "trial", "reference"):
+    for name in ("plain_call_test", "scratch", "trial", "reference"):
         build("-c", HOST / f"{name}.c", "-o", folder / f"{name}.o")
     build(RENAMED, "-c", HOST / "wrong_call.c", "-o", folder / "wrong_call.o")
 
@@ -217,7 +217,7 @@ def run(folder, copy, *group, common=False):
     (folder / "copy.c").write_text(copy)
     build(RENAMED, "-c", folder / "copy.c", "-o", folder / "copy.o")
     compared = folder / ("copy.c" if common else "reference.o")
-    objects = [folder / f"{name}.o" for name in ("plain_call_test", "trial", "wrong_call", "copy")]
+    objects = [folder / f"{name}.o" for name in ("plain_call_test", "scratch", "trial", "wrong_call", "copy")]
     build(*objects, compared, "-o", folder / "test")
     return subprocess.run([folder / "test", *group], capture_output=True, text=True, timeout=60)
 

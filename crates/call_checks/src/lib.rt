@@ -95,9 +95,9 @@ fn refused_scratch(case: Case, scratch: &[u8]) -> u32
     0
 }
 
-// Whether one of the first bytes is not zero. What an earlier call left is handled a byte at a time, and nothing is made of two of them: each
-// byte marks one of two cells, the second where it is not zero, and no byte ends the loop. Only tests/audit guards that: a loop that
-// joins all bytes, or leaves at the first, is proved too.
+// Whether one of the first bytes is not zero. What an earlier call left is handled a byte at a time, and nothing is made of two bytes: each
+// marks one of two cells, the second where it is not zero, and none ends the loop. Two of them, or the place of the first that is not zero,
+// beside r3 tell of the earlier call's input. Only tests/audit guards that: a loop that joins the bytes or stops at one is proved too.
 fn dirty(scratch: &[u8], size: u16) -> bool
     requires { ⌜ size ≤ length (now scratch) ⌝ }
     ensures { λ r. ⌜ r ≡ Refusals·dirty size (now (scratch .entry)) ⌝ }
@@ -112,7 +112,8 @@ fn dirty(scratch: &[u8], size: u16) -> bool
     cells[1] != 0
 }
 
-// The cell that a byte marks. Sums and a quotient, since a test of the byte would be joined with the test before it.
+// The cell that a byte marks, by a sum and a quotient: with a test in their place the compiler keeps the cells in registers and joins
+// the bytes' tests there.
 fn cell(byte: u8) -> usize
     ensures { λ r. ⌜ r ≡ cond (leb 1 byte) 1 0 ⌝ }
 {

@@ -9,7 +9,8 @@ use Rattle.lookup.specs.Refusals.{case-refusal}
 use Rattle.case_sheet.specs.Sheet.{numbers-of, table-of, well-formed, case-read}
 use Rattle.log_print.specs.Lines.{line-of, answer-lines}
 
--- a refused case: its number alone
+-- a refused case: its number alone. Scratch and log are lent long enough for any case, and the scratch as zeros, so 13, 19 and 14 are
+-- never printed: only the case is refused.
 unfoldable pub reply : Case → (table : List ℕ) → List ℕ
 reply c table =
     cond (eqb (case-refusal c table) 0) (answer-lines (log-of c table) (answer c table) (log-length (c .method) (c .n)))

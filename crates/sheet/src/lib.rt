@@ -19,7 +19,7 @@ pub fn print(input: &[u8], output: &mut [u8; 32768]) -> usize
     reply(sheet.malformed, sheet.case, &table[..entries], output)
 }
 
-// The answer to a case, or 1 to a malformed sheet. Scratch, log and output are long enough for any case.
+// The answer to a case, or 1 to a malformed sheet. Scratch, log and output are long enough for any case, and the scratch is zeros.
 fn reply(malformed: bool, case: Case, table: &[u8], output: &mut [u8; 32768]) -> usize
     ensures { λ r. ⌜ r ≡ length (cond malformed (line-of (1 ∷ [])) (Print·reply case (now (table .entry)))) ⌝ }
     ensures { λ _. ⌜ now (output .exit) ≡ in-front (cond malformed (line-of (1 ∷ [])) (Print·reply case (now (table .entry))))

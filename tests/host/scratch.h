@@ -1,0 +1,16 @@
+// The calls on scratch that is dirty, long or used: groups of plain_call_test.c.
+#ifndef SCRATCH_H
+#define SCRATCH_H
+
+#include "trial.h"
+
+// An accepted call with one byte of its scratch not zero, or all, and scratch longer than it needs.
+void dirty_scratch(const struct trial *fine, uint32_t entries);
+
+// Lengths that come into range when they are cut to 8 or 16 bits, and dirt at such places.
+void long_buffers(void);
+
+// Calls on one scratch, which each needs cleared.
+void calls_in_a_row(void);
+
+#endif
