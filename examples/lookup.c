@@ -1,5 +1,5 @@
 // Looks up a secret in a table without forming it: the C side of a masked lookup, with fresh masks from the system. A lookup begins with
-// zeros in its scratch, so that it is cleared before the first and after each.
+// zeros in its scratch and leaves it used, so it is cleared before the first and after each.
 #include <cippazhey.h>
 #include <stdio.h>
 

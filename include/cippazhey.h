@@ -1,6 +1,6 @@
 // Cippazhey for C and C++: the masked table lookup on three shares, the numbers of its refusals, what its caller owes, and
 // the call that clears its scratch.
-// Link libcippazhey.a, which `make lib` writes to target/staticlib/. It needs memset and memcpy, and nothing else.
+// Link libcippazhey.a, which `make lib` writes to target/staticlib/. It needs memset and memcpy at most.
 #ifndef CIPPAZHEY_H
 #define CIPPAZHEY_H
 
@@ -47,14 +47,16 @@ enum cippazhey_refusal {
 //   - table and scratch point to as many bytes as their lengths say. NULL is allowed only with length 0.
 //   - table and scratch do not overlap, and nothing else touches them while the call runs.
 //   - r1, r2, r3, s1, s2, and b under method 3 are uniform, independent, and new for each call. No call can check that.
-//   - scratch is cleared before the first call, and after each accepted one as soon as it has returned. Otherwise the next
-//     call of that width is refused. And what method 2 leaves beside the returned share is a share too many: byte r3 is that
-//     share, the others are the table's other entries under the same masks. Together they can tell s1 ^ s2 (for the S-box of
-//     AES they do), and that with the returned share gives table[x].
+//   - scratch is cleared before the first call, and after each as soon as it has returned. What method 2 leaves beside the
+//     returned share is a share too many: byte r3 is that share, the others are the table's other entries under the same
+//     masks. Together they can tell s1 ^ s2 (for the S-box of AES they do), and that with the returned share gives table[x].
+//     A call that finds a nonzero byte among its own first 2^n is refused, and leaves it there. That is no guard: a narrower
+//     call may find zeros in what a wider one left, and takes them.
 //
 // What is proved of the source:
 //   - Every call returns, and reads and writes only the bytes it is lent.
-//   - The result and every byte of scratch are as the scope document lays them out. A refused call writes nothing.
+//   - The result and every byte of scratch are as the scope document and its request for clean scratch lay them out. A
+//     refused call writes nothing.
 //   - Any two of the values that the method's log lists tell nothing of the secret, for every balanced table and all widths.
 // What is not proved:
 //   - How long a call takes.
@@ -74,7 +76,8 @@ uint16_t cippazhey_plain_call(uint32_t method, uint32_t n, uint32_t m, uint32_t 
 //   length       how many bytes buffer points to: any number
 //
 // What is proved of the source: the call returns, and every byte of the buffer is zero afterwards; it writes no other.
-// What is not: a copy of those bytes that the caller's compiler made elsewhere stays.
+// What is not: that the compiled call and the firmware's memset, which it becomes, do so. That is tested.
+// What is not cleared: copies on the stack and in registers, the lookup's own or those that the caller's compiler made.
 void cippazhey_clear(uint8_t *buffer, size_t length);
 
 // The refusal in a result: one of the numbers above, CIPPAZHEY_ACCEPTED where there is none.

@@ -2,27 +2,19 @@
 // group alone. Prints a line of counts for each group of buffers and the first that differ; exits with 1 if any differs, or if comparisons
 // are missing. The twentieth difference ends it.
 #include "cippazhey.h"
+#include "groups.h"
 
-#include <stdbool.h>
 #include <stdio.h>
-#include <stdlib.h>
 #include <string.h>
 
-enum { GUARD = 64, LONGEST = 1048576 + 3, ROOM = GUARD + LONGEST + GUARD, MOST_FAILED = 20 };
+enum { GUARD = 64, LONGEST = 1048576 + 3, ROOM = GUARD + LONGEST + GUARD };
 
 static uint8_t before[ROOM], after[ROOM];
-static unsigned long passed, failed;
-
-static void record(bool good, const char *what, size_t length, size_t detail) {
-    if (good) {
-        passed++;
-        return;
-    }
-    failed++;
-    printf("DIFFERS: %s, length %lu, %lu\n", what, (unsigned long)length, (unsigned long)detail);
-    if (failed == MOST_FAILED) {
-        exit(1);
-    }
+// Counts one comparison, with the buffer's length and what else tells it from the group's others.
+static void note(bool good, const char *what, size_t length, size_t detail) {
+    char text[100];
+    snprintf(text, sizeof text, "%s, length %lu, %lu", what, (unsigned long)length, (unsigned long)detail);
+    record(good, text);
 }
 
 // Fills a buffer and its guards with bytes of which none is zero. The buffer begins behind the first guard and the offset.
@@ -54,7 +46,7 @@ static void lengths(void) {
     for (size_t length = 0; length <= 600; length++) {
         for (size_t offset = 0; offset < 16; offset++) {
             fill_dirty(offset, length);
-            record(clears(offset, length), "every byte dirty, offset", length, offset);
+            note(clears(offset, length), "every byte dirty, offset", length, offset);
         }
     }
 }
@@ -64,14 +56,14 @@ static void long_lengths(void) {
     const size_t tried[] = {65535, 65536, 65537, 65536 + 255, 65536 + 256, 131072, LONGEST};
     for (size_t each = 0; each < sizeof tried / sizeof *tried; each++) {
         fill_dirty(0, tried[each]);
-        record(clears(0, tried[each]), "long buffer", tried[each], 0);
+        note(clears(0, tried[each]), "long buffer", tried[each], 0);
     }
 }
 
 // There is nothing to clear, and no address: that it returns is all.
 static void no_buffer(void) {
     cippazhey_clear(NULL, 0);
-    record(true, "NULL", 0, 0);
+    note(true, "NULL", 0, 0);
 }
 
 // A buffer of one value, for each value.
@@ -81,7 +73,7 @@ static void values(void) {
         for (int value = 0; value < 256; value++) {
             fill_dirty(0, tried[each]);
             memset(before + GUARD, value, tried[each]);
-            record(clears(0, tried[each]), "one value", tried[each], (size_t)value);
+            note(clears(0, tried[each]), "one value", tried[each], (size_t)value);
         }
     }
 }
@@ -93,41 +85,20 @@ static void places(void) {
             fill_dirty(0, length);
             memset(before + GUARD, 0, length);
             before[GUARD + place] = (uint8_t)(1 + (length + place) % 255);
-            record(clears(0, length), "one dirty byte, place", length, place);
+            note(clears(0, length), "one dirty byte, place", length, place);
         }
     }
 }
 
-// The groups, and how many comparisons each makes: one that makes fewer has left some out.
-static const struct group {
-    const char *name;
-    void (*run)(void);
-    unsigned long comparisons;
-} groups[] = {
+// One that makes fewer comparisons has left some out.
+static const struct group groups[] = {
     {"no_buffer", no_buffer, 1},
     {"lengths", lengths, 9616},
     {"values", values, 1280},
     {"places", places, 2485},
     {"long_lengths", long_lengths, 7},
 };
-enum { GROUPS = sizeof groups / sizeof *groups, COMPARISONS = 13389 };
-
-static void run_group(const struct group *group) {
-    unsigned long passed_before = passed, failed_before = failed;
-    group->run();
-    unsigned long good = passed - passed_before, bad = failed - failed_before;
-    printf("%s: %lu passed, %lu failed, of %lu\n", group->name, good, bad, group->comparisons);
-    failed += good + bad != group->comparisons;
-}
 
 int main(int count, char **words) {
-    // a call that ends the program still leaves the lines before it
-    setvbuf(stdout, NULL, _IOLBF, BUFSIZ);
-    for (int each = 0; each < GROUPS; each++) {
-        if (count < 2 || strcmp(words[1], groups[each].name) == 0) {
-            run_group(&groups[each]);
-        }
-    }
-    printf("%lu passed, %lu failed\n", passed, failed);
-    return failed == 0 && (count > 1 || passed == COMPARISONS) ? 0 : 1;
+    return run_groups(groups, sizeof groups / sizeof *groups, count, words);
 }

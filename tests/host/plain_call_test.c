@@ -5,7 +5,6 @@
 #include "scratch.h"
 #include "trial.h"
 
-#include <stdio.h>
 #include <string.h>
 
 enum { RANDOM_CALLS = 100000 };
@@ -255,38 +254,17 @@ static void random_calls(void) {
     }
 }
 
-// The groups, and how many comparisons each makes: one that makes fewer has left some out.
-static const struct group {
-    const char *name;
-    void (*run)(void);
-    unsigned long comparisons;
-} groups[] = {
+// One that makes fewer comparisons has left some out.
+static const struct group groups[] = {
     {"bench_sheet", bench_sheet, 17},
     {"neighbours_of_refusals", neighbours, 30004},
     {"several_faults_at_once", several_faults, 12282},
     {"long_buffers", long_buffers, 288},
     {"small_widths_whole", small_widths, 314446},
-    {"calls_in_a_row", calls_in_a_row, 1188},
+    {"calls_in_a_row", calls_in_a_row, 1191},
     {"random_calls", random_calls, 100012},
 };
-enum { GROUPS = sizeof groups / sizeof *groups, COMPARISONS = 458237 };
-
-static void run_group(const struct group *group) {
-    unsigned long passed_before = passed, failed_before = failed;
-    group->run();
-    unsigned long good = passed - passed_before, bad = failed - failed_before;
-    printf("%s: %lu passed, %lu failed, of %lu\n", group->name, good, bad, group->comparisons);
-    failed += good + bad != group->comparisons;
-}
 
 int main(int count, char **words) {
-    // a call that ends the program still leaves the lines before it
-    setvbuf(stdout, NULL, _IOLBF, BUFSIZ);
-    for (int each = 0; each < GROUPS; each++) {
-        if (count < 2 || strcmp(words[1], groups[each].name) == 0) {
-            run_group(&groups[each]);
-        }
-    }
-    printf("%lu passed, %lu failed\n", passed, failed);
-    return failed == 0 && (count > 1 || passed == COMPARISONS) ? 0 : 1;
+    return run_groups(groups, sizeof groups / sizeof *groups, count, words);
 }

@@ -88,7 +88,7 @@ void long_buffers(void) {
     }
 }
 
-// Calls in a row on one scratch: each needs it cleared.
+// Calls in a row on one scratch: at one width each needs it cleared.
 
 static bool all_zero(const uint8_t *bytes, size_t length) {
     for (size_t place = 0; place < length; place++) {
@@ -106,7 +106,7 @@ static uint16_t call_on_own_scratch(struct trial *trial, uint32_t method, uint32
     return make_call(trial, trial->table, trial->scratch);
 }
 
-// What a call leaves is never all zero, since method 2 leaves every value and method 3 both bits. So neither method takes it.
+// What a call leaves is never all zero, since method 2 leaves every value and method 3 both bits. So neither method takes it at that width.
 static void calls_on_used_scratch(struct trial *trial, uint32_t method, uint32_t b, const uint8_t left[LONGEST]) {
     const uint16_t dirty = 256 * CIPPAZHEY_REFUSED_DIRTY_SCRATCH;
     record(call_on_own_scratch(trial, method, b) == dirty, "the same call on what the first left");
@@ -133,7 +133,17 @@ static void calls_in_a_row_at(struct trial trial, uint32_t method, uint32_t b) {
     record(call_on_own_scratch(&trial, 5 - method, 0) == share, "the other method on cleared scratch");
 }
 
+// A narrower call looks at less, and may find zeros in what a wider one left: P3 leaves 0, 0, 1, 0, and P1 takes the first two.
+static void narrower_call(void) {
+    struct trial p3 = {{3, 2, 2, 0, 1, 2, 3, 0, 2, 1}, {2, 0, 3, 1}, {0}, 4, 4};
+    struct trial p1 = {{2, 1, 1, 0, 1, 0, 0, 1, 1, 0}, {1, 0}, {0}, 2, 4};
+    record(make_call(&p3, p3.table, p3.scratch) == 2, "P3");
+    record(make_call(&p1, p1.table, p3.scratch) == 1, "P1 on what P3 left");
+    record(memcmp(p3.scratch, (const uint8_t[]){0, 1, 1, 0}, 4) == 0, "what P1 leaves of it");
+}
+
 void calls_in_a_row(void) {
+    narrower_call();
     for (uint32_t n = 1; n <= 8; n++) {
         for (uint32_t m = 1; m <= n; m++) {
             struct trial trial = accepted(2, n, m);

@@ -10,7 +10,7 @@ void dirty_scratch(const struct trial *fine, uint32_t entries);
 // Lengths that come into range when they are cut to 8 or 16 bits, and dirt at such places.
 void long_buffers(void);
 
-// Calls on one scratch, which each needs cleared.
+// Calls one after the other on one scratch, used and cleared.
 void calls_in_a_row(void);
 
 #endif

@@ -5,24 +5,11 @@
 #include "reference.h"
 
 #include <stdio.h>
-#include <stdlib.h>
 #include <string.h>
 
-enum { GUARD = 64, ROOM = GUARD + LONGEST + GUARD, MOST_FAILED = 20 };
+enum { GUARD = 64, ROOM = GUARD + LONGEST + GUARD };
 
-unsigned long passed, failed, met[256];
-
-void record(bool good, const char *what) {
-    if (good) {
-        passed++;
-        return;
-    }
-    failed++;
-    printf("DIFFERS: %s\n", what);
-    if (failed == MOST_FAILED) {
-        exit(1);
-    }
-}
+unsigned long met[256];
 
 // xorshift
 uint32_t below(uint32_t limit) {

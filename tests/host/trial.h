@@ -2,7 +2,8 @@
 #ifndef TRIAL_H
 #define TRIAL_H
 
-#include <stdbool.h>
+#include "groups.h"
+
 #include <stddef.h>
 #include <stdint.h>
 
@@ -17,11 +18,8 @@ struct trial {
     size_t table_length, scratch_length;
 };
 
-// How many comparisons came out well and ill, and how many calls met each refusal.
-extern unsigned long passed, failed, met[256];
-
-// Counts one comparison; one that comes out ill is printed, and the twentieth of them ends the program.
-void record(bool good, const char *what);
+// How many calls met each refusal.
+extern unsigned long met[256];
 
 // A number below the limit. The numbers look random and are the same in every run.
 uint32_t below(uint32_t limit);

@@ -4,8 +4,9 @@
 # every wrong call is noticed, 1 otherwise, with a line for each that is not).
 import subprocess
 import sys
-import tempfile
 from pathlib import Path
+
+from controls import end_control
 
 HOST = Path(__file__).resolve().parent
 sys.path.insert(0, str(HOST.parent / "model"))
@@ -207,7 +208,7 @@ def build(*words):
 
 
 def build_objects(folder):
-    for name in ("plain_call_test", "scratch", "trial", "reference"):
+    for name in ("plain_call_test", "scratch", "trial", "groups", "reference"):
         build("-c", HOST / f"{name}.c", "-o", folder / f"{name}.o")
     build(RENAMED, "-c", HOST / "wrong_call.c", "-o", folder / "wrong_call.o")
 
@@ -217,7 +218,7 @@ def run(folder, copy, *group, common=False):
     (folder / "copy.c").write_text(copy)
     build(RENAMED, "-c", folder / "copy.c", "-o", folder / "copy.o")
     compared = folder / ("copy.c" if common else "reference.o")
-    objects = [folder / f"{name}.o" for name in ("plain_call_test", "scratch", "trial", "wrong_call", "copy")]
+    objects = [folder / f"{name}.o" for name in ("plain_call_test", "scratch", "trial", "groups", "wrong_call", "copy")]
     build(*objects, compared, "-o", folder / "test")
     return subprocess.run([folder / "test", *group], capture_output=True, text=True, timeout=60)
 
@@ -236,12 +237,4 @@ def complaints(folder):
         print(sum(map(len, groups.values())), "common faults" if common else "wrong calls")
 
 
-def main():
-    with tempfile.TemporaryDirectory() as folder:
-        found = list(complaints(Path(folder)))
-    for complaint in found:
-        print(complaint)
-    sys.exit(1 if found else 0)
-
-
-main()
+end_control(complaints)

@@ -2,9 +2,9 @@
 # exported in the place of the archive's call. Run: python3 tests/host/wrong_clears.py (status 0 if the right one passes whole and every
 # wrong one is noticed, 1 otherwise, with a line for each that is not).
 import subprocess
-import sys
-import tempfile
 from pathlib import Path
+
+from controls import end_control
 
 HOST = Path(__file__).resolve().parent
 COMPILE = ["cc", "-std=c99", "-O2", f"-I{HOST.parents[1] / 'include'}"]
@@ -79,7 +79,7 @@ WRONG_CLEARS = {
 
 def run(folder, body, *group):
     (folder / "clear.c").write_text(FUNCTION.format(body))
-    build = [*COMPILE, HOST / "clear_test.c", folder / "clear.c", "-o", folder / "test"]
+    build = [*COMPILE, HOST / "clear_test.c", HOST / "groups.c", folder / "clear.c", "-o", folder / "test"]
     subprocess.run(build, check=True, timeout=60)
     return subprocess.run([folder / "test", *group], capture_output=True, text=True, timeout=60)
 
@@ -100,12 +100,4 @@ def complaints(folder):
     print(sum(map(len, WRONG_CLEARS.values())), "wrong clears")
 
 
-def main():
-    with tempfile.TemporaryDirectory() as folder:
-        found = list(complaints(Path(folder)))
-    for complaint in found:
-        print(complaint)
-    sys.exit(1 if found else 0)
-
-
-main()
+end_control(complaints)

@@ -4,7 +4,8 @@ ghost use Rattle.calls.specs.Reply.{case-from, plain-reply, plain-scratc
 use lookup::Called;
 use lookup::Case;
 
-// The lookup with every value that it handles in the log. It is for the bench; it returns the answer share and the count of entries.
+// The lookup with every value that it handles in the log. It is for the bench; it returns the answer share and the count of entries. The
+// scratch must begin with zeros, and is left used: its caller clears it (`buffers::clear`).
 pub fn logged_call(
     method: u32,
     n: u32,
@@ -46,7 +47,7 @@ pub fn logged_call(
     )
 }
 
-// The same lookup without a log; the count is 0.
+// The same lookup without a log, on such scratch; the count is 0.
 pub fn plain_call(
     method: u32,
     n: u32,

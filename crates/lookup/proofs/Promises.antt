@@ -1,9 +1,10 @@
 -- What is promised of an accepted lookup holds.
 use mathlib.Core.Path.{_≡_, refl, sym, ap, _∙_}
-use mathlib.Core.List.{List, _++_, map}
-use Prim.Native.Nat.{ℕ, _^_, _≤_}
+use mathlib.Core.Logic.{_⊎_, inl, inr}
+use mathlib.Core.List.{List, map}
+use Prim.Native.Nat.{ℕ, _^_}
 use native.Mathlib.Omega.{arith}
-use lib.ListN.{length, replicate, length-append, length-replicate}
+use lib.ListN.{replicate}
 use Rattle.bits.specs.Xor.{_⊕_}
 use Rattle.bits.proofs.Xor.{xors, below}
 use Rattle.table.specs.Balanced.{at}
@@ -16,13 +17,13 @@ use Rattle.lookup.specs.Method.{Method}
 use Rattle.lookup.specs.Methods.{found, method-of}
 use Rattle.lookup.specs.Call.{answer, scratch-after, log-of, log-length, scratch-length}
 use Rattle.lookup.specs.Refusals.{case-refusal}
-use Rattle.lookup.specs.Promises.{Answer-right, Answer-small, Answer-kept, Rest-kept, Began-clean, Zeros-taken}
+use Rattle.lookup.specs.Promises.{Answer-right, Answer-small, Answer-kept, Rest-kept, Began-clean, Zeros-taken, Cleared-taken}
 use Rattle.lookup.specs.Promises.{Lengths-right, Log-long, Log-read-back}
 use Rattle.lookup.proofs.Each.{each-map}
 use Rattle.lookup.proofs.Methods.{of-each, method-2-of}
 use Rattle.lookup.proofs.Entry.{entry-kind, entry-value, value-kept, entry-small, none-large}
 use Rattle.lookup.proofs.Accepted.{Taken, accepted}
-use Rattle.lookup.proofs.Refused.{clean-zeros, zeros-clean, scratch-accepted, plain-case, plain-by-case}
+use Rattle.lookup.proofs.Refused.{Clean, zeros-clean, zeros-before, cleared, log-not-refused, logged-plain, plain-by-case, logged-by-plain}
 use Rattle.lookup.proofs.Second.{byte-r3}
 use Rattle.lookup.proofs.Layouts.{lines-long, each-line, lines-map, lines-agree}
 use Rattle.lookup.proofs.Right.{Small, Right, right}
@@ -62,16 +63,20 @@ rest-kept table scratch c e =
 
 pub began-clean : Began-clean
 unfolding Began-clean
-began-clean table scratch c e =
-    let k = scratch-accepted c scratch (plain-case c table scratch e .1) in
-    clean-zeros _ scratch (k .room) (k .clean)
+began-clean table scratch lent c (inl e) = zeros-before c table scratch e
+began-clean table scratch lent c (inr e) = zeros-before c table scratch (logged-plain c table scratch lent e .0)
 
 pub zeros-taken : Zeros-taken
 unfolding Zeros-taken
-zeros-taken table rest c =
-    let k = scratch-length (c .method) (c .n) in
-    let long : k ≤ length (replicate k 0 ++ rest) = simp (length-append, length-replicate) (omega arith) in
-    plain-by-case c table _ (record { room = long; clean = zeros-clean k rest })
+zeros-taken table scratch lent c room e =
+    let k : Clean c scratch = record { room = room; clean = zeros-clean _ scratch e } in (
+      plain-by-case c table scratch k,
+      λ long. logged-by-plain c table scratch lent (log-not-refused c lent long) ∙ plain-by-case c table scratch k,
+    )
+
+pub cleared-taken : Cleared-taken
+unfolding Cleared-taken
+cleared-taken table size c h = plain-by-case c table (replicate size 0) (cleared c size h)
 
 pub lengths-right : Lengths-right
 unfolding Lengths-right log-length scratch-length method-of found

@@ -8,6 +8,7 @@ use borrow.Author.Tests.{ltb-false, le-ltb}
 use lib.ListN.{length, take, replicate, length-replicate, replicate-append-replicate}
 use lib.Seq.{length-take-le, take-at}
 use Rattle.refusals.specs.Checks.{first-of}
+use Rattle.refusals.specs.Tests.{any-from}
 use Rattle.refusals.proofs.Checks.{passed, goes, none-applies, numbered, passed-both, goes-both, none-behind}
 use Rattle.refusals.proofs.Tests.{zeros-none, none-nonzero}
 use Rattle.table.specs.Refusals.{table-checks}
@@ -17,9 +18,9 @@ use Rattle.lookup.specs.Refusals.{method-checks, mask-checks, dirty, scr
 use Rattle.lookup.specs.Refusals.{case-checks, case-refusal, plain-refusal, logged-refusal}
 
 -- zeros are not dirty, whatever stands behind them
-pub zeros-clean : (k : ℕ) (rest : List ℕ) → dirty k (replicate k 0 ++ rest) ≡ false
+pub zeros-clean : (k : ℕ) (scratch : List ℕ) → take k scratch ≡ replicate k 0 → dirty k scratch ≡ false
 unfolding dirty
-zeros-clean k rest = rw (take-at (replicate k 0) rest k (length-replicate k 0)) (zeros-none k (omega arith))
+zeros-clean k scratch e = ap (any-from _) e ∙ zeros-none k (omega arith)
 
 -- and what is not dirty is zeros
 pub clean-zeros : (k : ℕ) (scratch : List ℕ) → k ≤ length scratch → dirty k scratch ≡ false → take k scratch ≡ replicate k 0
@@ -47,9 +48,11 @@ pub cleared : (c : Case) (size : ℕ) → scratch-length (c .method) (c .n) ≤ 
 cleared c size h =
     let k = scratch-length (c .method) (c .n) in
     let rest : List ℕ = replicate (size - k) 0 in
+    let all : List ℕ = replicate size 0 in
     let sum : k + (size - k) ≡ size = omega (arith, h) in
-    let parts : replicate k 0 ++ rest ≡ replicate size 0 = replicate-append-replicate k (size - k) 0 ∙ ap (λ i. replicate i 0) sum in
-    record { room = simp length-replicate h; clean = rw (← parts) (zeros-clean k rest) }
+    let parts : replicate k 0 ++ rest ≡ all = replicate-append-replicate k (size - k) 0 ∙ ap (λ i. replicate i 0) sum in
+    let front : take k all ≡ replicate k 0 = rw (← parts) (take-at (replicate k 0) rest k (length-replicate k 0)) in
+    record { room = simp length-replicate h; clean = zeros-clean k _ front }
 
 -- and the check of the log
 pub log-not-refused : (c : Case) (lent : List ℕ) → log-length (c .method) (c .n) ≤ length lent → first-of (log-checks c lent) ≡ 0
@@ -69,6 +72,12 @@ module _ (c : Case) (table : List ℕ) where
     pub plain-case : plain-refusal c table scratch ≡ 0 → (case-refusal c table ≡ 0) × (first-of (scratch-checks c scratch) ≡ 0)
     unfolding case-refusal plain-refusal
     plain-case e = passed-both (case-checks c table) (scratch-checks c scratch) case-numbered e
+
+    pub zeros-before : plain-refusal c table scratch ≡ 0
+        → take (scratch-length (c .method) (c .n)) scratch ≡ replicate (scratch-length (c .method) (c .n)) 0
+    zeros-before e =
+        let k = scratch-accepted c scratch (plain-case e .1) in
+        clean-zeros _ scratch (k .room) (k .clean)
 
     pub logged-plain : (lent : List ℕ) → logged-refusal c table scratch lent ≡ 0
         → (plain-refusal c table scratch ≡ 0) × (first-of (log-checks c lent) ≡ 0)

@@ -1,7 +1,8 @@
--- What is promised of an accepted lookup. Each is a type; its proof stands in proofs/Promises.antt.
+-- What is promised of an accepted lookup, and of scratch that is taken. Each is a type; its proof stands in proofs/Promises.antt.
 use mathlib.Core.Path.{_≡_}
+use mathlib.Core.Logic.{_⊎_}
 use mathlib.Core.Bool.{false}
-use mathlib.Core.List.{List, _++_, map}
+use mathlib.Core.List.{List, map}
 use Prim.Native.Nat.{ℕ, _+_, _*_, _^_, _≤_, _<_}
 use lib.ListN.{length, take, drop, replicate}
 use Rattle.bits.specs.Xor.{_⊕_}
@@ -14,7 +15,7 @@ use Rattle.lookup.specs.Layout.{lines}
 use Rattle.lookup.specs.Row.{Row}
 use Rattle.lookup.specs.Methods.{method-of}
 use Rattle.lookup.specs.Call.{answer, scratch-after, log-of, log-length, scratch-length}
-use Rattle.lookup.specs.Refusals.{case-refusal, plain-refusal}
+use Rattle.lookup.specs.Refusals.{case-refusal, plain-refusal, logged-refusal}
 
 -- the answer joined with both output masks is the table's entry for the input
 unfoldable pub Answer-right : Type 0
@@ -25,7 +26,7 @@ Answer-right =
 unfoldable pub Answer-small : Type 0
 Answer-small = (table : List ℕ) (c : Case) → case-refusal c table ≡ 0 → answer c table < 2 ^ c .m
 
--- under method 2 the answer stands in the scratch, whatever was lent
+-- under method 2 the answer stands in the scratch that is left, whatever stood there before (in an accepted call zeros)
 unfoldable pub Answer-kept : Type 0
 Answer-kept =
     (table scratch : List ℕ) (c : Case) → case-refusal c table ≡ 0 → c .method ≡ 2 → Q c ≤ length scratch →
@@ -37,16 +38,25 @@ Rest-kept =
     (table scratch : List ℕ) (c : Case) → case-refusal c table ≡ 0 →
     drop (scratch-length (c .method) (c .n)) (scratch-after c table scratch) ≡ drop (scratch-length (c .method) (c .n)) scratch
 
--- an accepted call began with zeros in the scratch bytes that the method needs
+-- an accepted call, plain or logged, began with zeros in the scratch bytes that the method needs
 unfoldable pub Began-clean : Type 0
 Began-clean =
-    (table scratch : List ℕ) (c : Case) → plain-refusal c table scratch ≡ 0 →
+    (table scratch lent : List ℕ) (c : Case) → (plain-refusal c table scratch ≡ 0) ⊎ (logged-refusal c table scratch lent ≡ 0) →
     take (scratch-length (c .method) (c .n)) scratch ≡ replicate (scratch-length (c .method) (c .n)) 0
 
--- a scratch that begins with as many zeros is never refused, whatever stands behind them: what is refused is the case
+-- scratch that begins with as many zeros is never refused, whatever stands behind them, nor is a long enough log: what is refused is the case
 unfoldable pub Zeros-taken : Type 0
 Zeros-taken =
-    (table rest : List ℕ) (c : Case) → plain-refusal c table (replicate (scratch-length (c .method) (c .n)) 0 ++ rest) ≡ case-refusal c table
+    (table scratch lent : List ℕ) (c : Case) → scratch-length (c .method) (c .n) ≤ length scratch →
+    take (scratch-length (c .method) (c .n)) scratch ≡ replicate (scratch-length (c .method) (c .n)) 0 →
+    (plain-refusal c table scratch ≡ case-refusal c table)
+    × (log-length (c .method) (c .n) ≤ length lent → logged-refusal c table scratch lent ≡ case-refusal c table)
+
+-- so with what `clear` leaves of a buffer that is long enough
+unfoldable pub Cleared-taken : Type 0
+Cleared-taken =
+    (table : List ℕ) (size : ℕ) (c : Case) → scratch-length (c .method) (c .n) ≤ size →
+    plain-refusal c table (replicate size 0) ≡ case-refusal c table
 
 -- the lengths that document 01 gives
 unfoldable pub Lengths-right : Type 0

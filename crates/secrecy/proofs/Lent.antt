@@ -1,4 +1,5 @@
--- The logged call accepts every choice that is counted, and what it leaves in the lent log is the log that the third demand counts.
+-- The logged call accepts every choice that is counted, on clean scratch, and what it leaves in the lent log is the log that the third demand
+-- counts. What it refuses, it refuses for every choice.
 use mathlib.Core.Path.{_≡_, refl, sym, ap, _∙_}
 use mathlib.Core.Logic.{_⊎_}
 use mathlib.Core.List.{List, _++_}

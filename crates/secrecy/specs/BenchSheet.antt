@@ -1,4 +1,5 @@
--- Document 01's bench sheet, P1 to P12, with document 02's clean scratch, and counts beside it: on each line what the definitions come to, and what the paper says.
+-- Document 01's bench sheet, P1 to P12, with document 02's clean scratch, and counts beside it: on each line what the definitions come
+-- to, and what the paper says.
 use mathlib.Core.Path.{_≡_}
 use mathlib.Core.List.{List, [], _∷_, _++_, map}
 use Prim.Native.Nat.{ℕ, suc}
