@@ -15,6 +15,7 @@ lib:
 # the log of a case sheet, printed by the proved program
 bench:
 	@mkdir -p target
+	@test -x target/bin/bench || rm -f target/stamp/bench
 	@rt check bench > target/bench.log 2>&1 || { cat target/bench.log; exit 1; }
 	@target/bin/bench < $(SHEET)
 
@@ -26,6 +27,7 @@ demo: lib
 # the S-box of FIPS 197, printed by the proved program
 sbox:
 	@mkdir -p target
+	@test -x target/bin/sbox_print || rm -f target/stamp/sbox_print
 	@rt check sbox_print > target/sbox.log 2>&1 || { cat target/sbox.log; exit 1; }
 	@target/bin/sbox_print
 

@@ -47,9 +47,10 @@ enum cippazhey_refusal {
 //   - table and scratch point to as many bytes as their lengths say. NULL is allowed only with length 0.
 //   - table and scratch do not overlap, and nothing else touches them while the call runs.
 //   - r1, r2, r3, s1, s2, and b under method 3 are uniform, independent, and new for each call. No call can check that.
-//   - scratch is cleared before the first call, and after each as soon as it has returned. What method 2 leaves beside the
-//     returned share is a share too many: byte r3 is that share, the others are the table's other entries under the same
-//     masks. Together they can tell s1 ^ s2 (for the S-box of AES they do), and that with the returned share gives table[x].
+//   - scratch is cleared with cippazhey_clear, best the whole of it: before the first call, and after each as soon as it has
+//     returned, its 2^n bytes at least. What method 2 leaves beside the returned share is a share too many: byte r3 is that
+//     share, the others are the table's other entries under the same masks. Together they can tell s1 ^ s2 (for the S-box of
+//     AES they do), and that with the returned share gives table[x]. Method 3 leaves r3 and b.
 //     A call that finds a nonzero byte among its own first 2^n is refused, and leaves it there. That is no guard: a narrower
 //     call may find zeros in what a wider one left, and takes them.
 //
@@ -64,7 +65,8 @@ enum cippazhey_refusal {
 //   - A caller that passes a constant for a mask lets its compiler undo the masking: neither proved nor audited.
 //   - Three values taken together tell the secret, and so may masks that are not uniform or are used twice.
 //
-// Returned is refusal * 256 + share, the share 0 on refusal.
+// Returned is refusal * 256 + share, the share 0 on refusal. Look at the refusal first: a 0 joined with s1 and s2 looks like
+// an answer.
 uint16_t cippazhey_plain_call(uint32_t method, uint32_t n, uint32_t m, uint32_t x0, uint32_t r1, uint32_t r2, uint32_t s1,
                               uint32_t s2, uint32_t r3, uint32_t b, const uint8_t *table, size_t table_length,
                               uint8_t *scratch, size_t scratch_length);

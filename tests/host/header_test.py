@@ -53,7 +53,9 @@ def wanted_declarations(source):
 def test_declaration(header):
     got, wanted = declared(header), wanted_declarations(SOURCE.read_text())
     wrong = [name for name in sorted({*got, *wanted}) if got.get(name) != wanted.get(name)]
-    return "\n".join(f"declared: {got.get(name)}\nand not:  {wanted.get(name)}" for name in wrong) or None
+    found = [f"declared: {got.get(name)}\nand not:  {wanted.get(name)}" for name in wrong]
+    found += [f"no test calls {name}" for name in sorted({*wanted} - {*CALLS})]
+    return "\n".join(found) or None
 
 
 # What a step that fails has to say, or None.
