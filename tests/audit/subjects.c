@@ -52,7 +52,6 @@ const struct subject *subject_named(const char *name) {
         {"unguarded", baseline_plain_call, 0, 3, CONTROL | BY_WIDTH},
         {"inputs", guarded_bare_call, 6, 1, CONTROL}, // it checks no table, so it looks up in an unbalanced one
         {"used", cippazhey_plain_call, 7, 1, USED},
-        {"used_briefly", cippazhey_plain_call, 0, 2, USED}, // for method 3, whose leftovers no input changes
         {"joined_leftovers", control_joined_leftovers, 7, 1, CONTROL | USED},
         {"joined_leftovers_affine", control_joined_leftovers, 0, 3, CONTROL | USED},
         {"single_leftovers", control_single_leftovers, 7, 1, CONTROL | USED},

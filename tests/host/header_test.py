@@ -1,5 +1,6 @@
 # Holds the C header to the archive and to the Rattle source. Run: python3 tests/host/header_test.py TEST ARCHIVE, where TEST is
-#   declaration   the declarations are those that the source makes: the types, and the parameters' names in their order;
+#   declaration   the declarations are those that the source makes: the types, and the parameters' names in their order; the refusals
+#                 stand in the order of checking;
 #   c, c++        tests/host/header_test.c compiles with the header in that language, and passes;
 #   control       edited copies of the header, each of which those tests must notice.
 # The status is 0 if the test passes, and 1 otherwise, with what it found.
@@ -21,6 +22,8 @@ PROGRAM = ROOT / "tests" / "host" / "header_test.c"
 COMPILERS = {"c": ["cc", "-std=c99", "-x", "c"], "c++": ["c++", "-std=c++11", "-x", "c++"]}
 # The functions of the archive, and the macros by which the program calls them.
 CALLS = {"cippazhey_plain_call": "CALL_BY_NAME", "cippazhey_clear": "CLEAR_BY_NAME"}
+# In the order of checking, which the header's list has.
+REFUSALS = [0, 2, 3, 4, 5, 6, 7, 10, 11, 12, 13, 19]
 WARNINGS = ["-Wall", "-Wextra", "-Wpedantic", "-Werror"]
 # What the source's parameters and results are in C. A slice is a pointer and a length.
 PARAMETER = {
@@ -50,11 +53,17 @@ def wanted_declarations(source):
     return {name: f"{RESULT[result]} {name}({parameters_in_c(parameters)})" for name, parameters, result in functions}
 
 
+def listed_refusals(header):
+    return [int(number) for number in re.findall(r"CIPPAZHEY_(?:ACCEPTED|REFUSED_\w+) = (\d+)", header)]
+
+
 def test_declaration(header):
     got, wanted = declared(header), wanted_declarations(SOURCE.read_text())
     wrong = [name for name in sorted({*got, *wanted}) if got.get(name) != wanted.get(name)]
     found = [f"declared: {got.get(name)}\nand not:  {wanted.get(name)}" for name in wrong]
     found += [f"no test calls {name}" for name in sorted({*wanted} - {*CALLS})]
+    if listed_refusals(header) != REFUSALS:
+        found.append(f"the refusals are not in the order of checking: {listed_refusals(header)}")
     return "\n".join(found) or None
 
 
@@ -128,6 +137,9 @@ def exchanges(header):
     constants = re.findall(r"CIPPAZHEY_REFUSED_\w+", header)
     for pair in zip(constants, constants[1:]):
         yield C, *pair
+    lines = re.findall(r"CIPPAZHEY_REFUSED_\w+ = \d+", header)
+    for pair in zip(lines, lines[1:]):
+        yield DECLARATION, *pair
     numbers = re.findall(r"uint32_t \w+,", declared(header)["cippazhey_plain_call"])
     for pair in itertools.combinations(numbers, 2):
         yield DECLARATION, *pair
