@@ -11,11 +11,11 @@ use Rattle.buffers.specs.Written.{in-front}
 use Rattle.lookup.specs.declared.Case.{Case}
 use Rattle.lookup.specs.declared.Called.{Called}
 use Rattle.lookup.specs.Call.{answer, log-of, log-length, scratch-length}
-use Rattle.lookup.specs.Refusals.{case-refusal, logged-refusal}
-use Rattle.lookup.specs.Promises.{Log-long}
+use Rattle.lookup.specs.Refusals.{case-refusal, plain-refusal, logged-refusal}
+use Rattle.lookup.specs.Promises.{Cleared-taken, Log-long}
 use Rattle.lookup.proofs.Accepted.{accepted, accepted-bounded}
-use Rattle.lookup.proofs.Refused.{cleared, log-not-refused, plain-by-case, logged-by-plain}
-use Rattle.lookup.proofs.Promises.{taken-right, log-long}
+use Rattle.lookup.proofs.Refused.{log-not-refused, logged-by-plain}
+use Rattle.lookup.proofs.Promises.{taken-right, cleared-taken, log-long}
 use Rattle.calls.specs.Reply.{called, left, logged-reply, logged-log}
 use Rattle.call_checks.proofs.Checking.{at-case, at-plain}
 use Rattle.log_print.specs.Lines.{line-of, answer-lines}
@@ -44,12 +44,13 @@ module _ (c : Case) (table : List ℕ) where
   module _ (scratch lent : List ℕ) (x : Called) (told : x ≡ logged-reply c table scratch lent)
       (zeros : scratch ≡ replicate 256 0) (log-room : length lent ≡ 2400) where
     same-refusal : logged-refusal c table scratch lent ≡ case-refusal c table
+    unfolding Cleared-taken
     same-refusal = same-refusal-by-cases (case-refusal c table) refl
       where
         same-refusal-by-cases : (k : ℕ) → k ≡ case-refusal c table → logged-refusal c table scratch lent ≡ case-refusal c table
         same-refusal-by-cases zero e =
             logged-by-plain c table scratch lent (log-not-refused c lent (omega (arith, log-most (sym e))))
-            ∙ plain-by-case c table scratch (rw zeros (cleared c 256 (scratch-most (sym e))))
+            ∙ ap (plain-refusal c table) zeros ∙ cleared-taken table 256 c (scratch-most (sym e))
         same-refusal-by-cases (suc k) e =
             sym (at-plain c table scratch lent (suc k) (at-case c table scratch (suc k) e (λ z. omega arith)) (λ z. omega arith)) ∙ e
 
