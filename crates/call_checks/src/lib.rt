@@ -97,7 +97,7 @@ fn refused_scratch(case: Case, scratch: &[u8]) -> u32
 
 // Whether one of the first bytes is not zero. What an earlier call left is handled a byte at a time, and no value is formed of two bytes but
 // the one bit that is returned: each marks one of two cells, the second where it is not zero, and none ends the loop. Two of them, or the
-// place of the first that is not zero, beside r3 tell of the earlier call's input. Only tests/audit guards that: a loop that joins the
+// place of the first that is not zero, beside r3 can tell of the earlier call's input. Only tests/audit guards that: a loop that joins the
 // bytes or stops at one is proved too.
 fn dirty(scratch: &[u8], size: u16) -> bool
     requires { ⌜ size ≤ length (now scratch) ⌝ }
