@@ -12,7 +12,7 @@ lib:
 	@mkdir -p target
 	@rt staticlib cippazhey > target/lib.log 2>&1 || { cat target/lib.log; exit 1; }
 
-# the log of a case sheet, printed by the proved program
+# the log of a case sheet, printed by the proved program; where the program is gone, it is linked again
 bench:
 	@mkdir -p target
 	@test -x target/bin/bench || rm -f target/stamp/bench

@@ -143,7 +143,7 @@ static int exhaustive(struct widths w, const uint8_t *lent_table) {
     struct study study = {"exhaustive", w, {8, 32}, inputs, each, input_itself, choice_numbered, leaking_pairs, NULL};
     struct trace trace;
     if (subject->flags & LOGGED) study.division = (struct division){2, 2};
-    if (subject->flags & CLEARS) study.leaking = all_of_them;
+    if (subject->flags & CLEARS) study.leaking = dependent_probes;
     memcpy(table, lent_table, inputs);
     int found = carry_out(&study, &trace);
     if (w.n > 1) add_audited(&trace);
@@ -177,7 +177,7 @@ static int linear(uint32_t method, bool same_code) {
     struct trace trace;
     if (same_code && watches(WIDTHS_PART)) study.way = all_audited;
     if (!watches(BYTES_PART)) study.division = (struct division){8, 8};
-    if (subject->flags & CLEARS) study.leaking = all_of_them;
+    if (subject->flags & CLEARS) study.leaking = dependent_probes;
     for (uint32_t i = 0; i < LONGEST; i++) {
         uint32_t odd_multiple = (i * 37 + 11) % LONGEST;
         table[i] = (uint8_t)(odd_multiple ^ odd_multiple >> 3); // both steps can be undone, so each value comes up once

@@ -94,7 +94,7 @@ void print_leak(const struct probes *probes, const struct probe *one, const stru
     printf("\n");
 }
 
-size_t all_of_them(const struct probes *probes, size_t inputs) {
+size_t dependent_probes(const struct probes *probes, size_t inputs) {
     (void)inputs;
     for (size_t i = 0; i < probes->count && i < SHOWN; i++) print_leak(probes, &probes->list[i], NULL);
     return probes->count;

@@ -33,7 +33,7 @@ void *room(size_t count, size_t size);
 size_t leaking_pairs(const struct probes *probes, size_t inputs);
 
 // For what must not depend on the contents that it is lent: each probe that does leaks alone.
-size_t all_of_them(const struct probes *probes, size_t inputs);
+size_t dependent_probes(const struct probes *probes, size_t inputs);
 
 // The linear comparison, for choices drawn at random: a probe, or the exclusive or of two, leaks if it is the same for all
 // choices of each input and differs between two inputs.

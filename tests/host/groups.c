@@ -21,7 +21,7 @@ void record(bool good, const char *what) {
     }
 }
 
-// Whether a group was run whole, and how it came out.
+// Whether a group was run whole, and all of it came out well.
 static bool run_group(const struct group *group) {
     unsigned long passed_before = passed, failed_before = failed;
     group->run();
