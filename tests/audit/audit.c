@@ -135,16 +135,17 @@ static struct choice choice_numbered(struct widths w, size_t number) {
     return c;
 }
 
-// Every input with every choice of masks.
+// Every input with every choice of masks. Where the call is refused, b is handled by itself alone and stays 0, and four inputs are enough: with
+// every r3, each comes to every place of the table.
 static int exhaustive(struct widths w, const uint8_t *lent_table) {
-    // b is handled by itself alone where the call is refused, so there it stays 0
+    size_t entries = (size_t)1 << w.n, inputs = subject->flags & USED && entries > 4 ? 4 : entries;
     uint32_t bit = subject->flags & USED ? 0 : w.method - 2;
-    size_t inputs = (size_t)1 << w.n, each = (size_t)1 << (3 * w.n + 2 * w.m + bit);
+    size_t each = (size_t)1 << (3 * w.n + 2 * w.m + bit);
     struct study study = {"exhaustive", w, {8, 32}, inputs, each, input_itself, choice_numbered, leaking_pairs, NULL};
     struct trace trace;
     if (subject->flags & LOGGED) study.division = (struct division){2, 2};
     if (subject->flags & CLEARS) study.leaking = dependent_probes;
-    memcpy(table, lent_table, inputs);
+    memcpy(table, lent_table, entries);
     int found = carry_out(&study, &trace);
     if (w.n > 1) add_audited(&trace);
     end_trace(&trace);

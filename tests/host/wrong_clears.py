@@ -8,6 +8,7 @@ from controls import end_control
 
 HOST = Path(__file__).resolve().parent
 COMPILE = ["cc", "-std=c99", "-O2", f"-I{HOST.parents[1] / 'include'}"]
+TEST = ("clear_test", "groups")
 FUNCTION = '#include "cippazhey.h"\nvoid cippazhey_clear(uint8_t *buffer, size_t length) {{ (void)buffer; (void)length; {} }}\n'
 
 
@@ -77,10 +78,13 @@ WRONG_CLEARS = {
 }
 
 
+def build(*words):
+    subprocess.run([*COMPILE, *words], check=True, timeout=60)
+
+
 def run(folder, body, *group):
     (folder / "clear.c").write_text(FUNCTION.format(body))
-    build = [*COMPILE, HOST / "clear_test.c", HOST / "groups.c", folder / "clear.c", "-o", folder / "test"]
-    subprocess.run(build, check=True, timeout=60)
+    build(*(folder / f"{name}.o" for name in TEST), folder / "clear.c", "-o", folder / "test")
     return subprocess.run([folder / "test", *group], capture_output=True, text=True, timeout=60)
 
 
@@ -90,6 +94,8 @@ def noticed(done):
 
 
 def complaints(folder):
+    for name in TEST:
+        build("-c", HOST / f"{name}.c", "-o", folder / f"{name}.o")
     if run(folder, RIGHT).returncode != 0:
         yield "the right one does not pass"
     for group, clears in WRONG_CLEARS.items():
