@@ -2,7 +2,7 @@
 use mathlib.Core.Path.{_≡_, refl, sym, ap₂, _∙_}
 use mathlib.Core.Bool.{cond}
 use Prim.Native.Nat.{ℕ, zero, suc, _+_, _*_, _<_}
-use native.Mathlib.Nat.{le-refl, le-of-suc-le-suc, not-suc-le-zero, add-assoc, mul-zero, zero-mul, zero-add}
+use native.Mathlib.Nat.{le-refl, le-of-suc-le-suc, not-suc-le-zero, add-assoc, add-mul, mul-zero, zero-mul, zero-add}
 use native.Mathlib.Numerals.{add-one}
 use native.Mathlib.Omega.{arith}
 use lib.Dec.{eqb, eqb·zero-suc, eqb·suc-zero, eqb·suc-suc}
@@ -23,6 +23,12 @@ pub sum-const : (k a : ℕ) → sum k (λ _. a) ≡ k * a
 unfolding sum
 sum-const zero a = omega arith
 sum-const (suc k) a = rw (sum-const k a) (omega arith)
+
+-- a common factor
+pub sum-times : (k : ℕ) (f : ℕ → ℕ) (a : ℕ) → sum k (λ i. f i * a) ≡ sum k f * a
+unfolding sum
+sum-times zero f a = sym (zero-mul a)
+sum-times (suc k) f a = rw (sum-times k f a) (sym (add-mul (sum k f) (f k) a))
 
 -- the two sums of a double sum change places
 pub sum-swap : (j k : ℕ) (f : ℕ → ℕ → ℕ) → sum j (λ a. sum k (λ b. f a b)) ≡ sum k (λ b. sum j (λ a. f a b))
