@@ -13,10 +13,10 @@ use Rattle.lookup.specs.Methods.{found, method-of}
 use Rattle.lookup.specs.Call.{log-of}
 use Rattle.lookup.specs.Layout.{pass-lines, passes-lines, lines}
 use Rattle.secrecy.specs.Count.{chosen-case, mask-widths, value-at}
-use Rattle.layer.specs.Layer.{layer-widths, places, call-log, layer-count}
+use Rattle.layer.specs.Layer.{layer-widths, places, call-case, count-by, layer-count}
 use Rattle.layer.specs.Promises.{Counts-computed}
 
 pub counts-computed : Counts-computed
-unfolding Counts-computed layer-count layer-widths flatten call-log places over sum chosen-case mask-widths value-at log-of lines passes-lines
-    pass-lines method-of found Q entry value-of masked r-prime scratch-2 answer-2 at _⊕_
+unfolding Counts-computed layer-count count-by layer-widths flatten call-case places over sum chosen-case mask-widths value-at log-of lines
+    passes-lines pass-lines method-of found Q entry value-of masked r-prime scratch-2 answer-2 at _⊕_
 counts-computed = refl

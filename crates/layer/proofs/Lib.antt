@@ -1,4 +1,5 @@
 -- What proves that two entries of a layer's logs tell nothing, and the counts in numbers.
 pub mod Counts
 pub mod Apart
+pub mod Alike
 pub mod Promises

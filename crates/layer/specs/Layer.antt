@@ -6,7 +6,9 @@ use Prim.Native.Nat.{ℕ, _+_, _*_, _^_, _<_}
 use lib.Dec.{eqb}
 use lib.ListN.{replicate}
 use Rattle.counting.specs.Choice.{over}
+use Rattle.lookup.specs.declared.Case.{Case}
 use Rattle.lookup.specs.Call.{log-of}
+use Rattle.calls.specs.Reply.{logged-log}
 use Rattle.secrecy.specs.Count.{Mask-places, chosen-case, mask-widths, value-at}
 
 -- a state gives each call, by its number, an input of the width
@@ -21,12 +23,21 @@ layer-widths calls n m = flatten (replicate calls (mask-widths 2 n m))
 unfoldable pub places : (call : ℕ) → Mask-places
 places k = record { r1 = 6 * k + 0; r2 = 6 * k + 1; r3 = 6 * k + 2; s1 = 6 * k + 3; s2 = 6 * k + 4; b = 6 * k + 5 }
 
--- the log of call k
-unfoldable pub call-log : (table : List ℕ) → (n m : ℕ) → (state choice : ℕ → ℕ) → (call : ℕ) → List ℕ
-call-log table n m x choice k = log-of (chosen-case (places k) 2 n m (x k) choice) table
+-- call k's case
+unfoldable pub call-case : (n m : ℕ) → (state choice : ℕ → ℕ) → (call : ℕ) → Case
+call-case n m x c k = chosen-case (places k) 2 n m (x k) c
 
--- how many choices put value u in entry i of call a's log and value v in entry j of call b's
-unfoldable pub layer-count : (table : List ℕ) → (calls n m : ℕ) → (state : ℕ → ℕ) → (a b i j u v : ℕ) → ℕ
-layer-count table calls n m x a b i j u v =
+-- how many choices put value u in entry i of call a's log and value v in entry j of call b's; `log` makes call k's log of its case
+unfoldable pub count-by : (log : (call : ℕ) → Case → List ℕ) → (calls n m : ℕ) → (state : ℕ → ℕ) → (a b i j u v : ℕ) → ℕ
+count-by log calls n m x a b i j u v =
     over (layer-widths calls n m)
-    (λ c. cond (eqb (value-at (call-log table n m x c a) i) u && eqb (value-at (call-log table n m x c b) j) v) 1 0)
+    (λ c. cond (eqb (value-at (log a (call-case n m x c a)) i) u && eqb (value-at (log b (call-case n m x c b)) j) v) 1 0)
+
+-- the count of the logs that the documents lay out
+unfoldable pub layer-count : (table : List ℕ) → (calls n m : ℕ) → (state : ℕ → ℕ) → (a b i j u v : ℕ) → ℕ
+layer-count table = count-by (λ k case. log-of case table)
+
+-- the count of the logs that the logged calls leave, each on the scratch and in the log that are lent to it
+unfoldable pub layer-call-count : (table : List ℕ) → (scratch lent : (call : ℕ) → List ℕ) → (calls n m : ℕ) → (state : ℕ → ℕ)
+    → (a b i j u v : ℕ) → ℕ
+layer-call-count table scratch lent = count-by (λ k case. logged-log case table (scratch k) (lent k))
