@@ -10,6 +10,7 @@ use mir.Val.{Fits}
 use lib.ListN.{length}
 use Rattle.refusals.specs.Checks.{first-of}
 use Rattle.refusals.proofs.Checks.{passed}
+use Rattle.refusals.proofs.Left.{left-refused, left-accepted}
 use Rattle.buffers.specs.Written.{in-front}
 use Rattle.lookup.specs.declared.Case.{Case}
 use Rattle.lookup.specs.Bounded.{Bounded}
@@ -19,7 +20,7 @@ use Rattle.lookup.specs.Refusals.{log-checks, plain-refusal, logged-refusal}
 use Rattle.lookup.proofs.Accepted.{Taken, accepted, accepted-bounded}
 use Rattle.lookup.proofs.Refused.{scratch-accepted, plain-case, logged-plain}
 use Rattle.lookup.proofs.Promises.{taken-right}
-use Rattle.calls.specs.Reply.{called, left, plain-reply, plain-scratch, logged-reply, logged-scratch, logged-log}
+use Rattle.calls.specs.Reply.{called, plain-reply, plain-scratch, logged-reply, logged-scratch, logged-log}
 
 called-refused : (j k share count : ℕ) → j ≡ k → (j ≡ 0 → ⊥) → record { refusal = j; share = 0; count = 0 } ≡ called k share count
 unfolding called
@@ -29,15 +30,6 @@ called-refused (suc j) k share count e h = rw (← e)
 called-accepted : (j k share count : ℕ) → j ≡ k → j ≡ 0 → record { refusal = j; share = share; count = count } ≡ called k share count
 unfolding called
 called-accepted j k share count e z = rw (← e, z)
-
-left-refused : (j k : ℕ) (new old : List ℕ) → j ≡ k → (j ≡ 0 → ⊥) → old ≡ left k new old
-unfolding left
-left-refused zero k new old e h = absurd (h refl)
-left-refused (suc j) k new old e h = rw (← e)
-
-left-accepted : (j k : ℕ) (new old : List ℕ) → j ≡ k → j ≡ 0 → new ≡ left k new old
-unfolding left
-left-accepted j k new old e z = rw (← e, z)
 
 module _ (c : Case) (table scratch : List ℕ) (j : ℕ) (told : j ≡ plain-refusal c table scratch) where
   pub plain-refused : (j ≡ 0 → ⊥) → record { refusal = j; share = 0; count = 0 } ≡ plain-reply c table scratch

@@ -1,6 +1,7 @@
 -- What the logged and the plain call hand back, and what they leave in the lent scratch and log: refused calls leave all as it was.
 use mathlib.Core.List.{List}
 use Prim.Native.Nat.{ℕ, zero, suc}
+use Rattle.refusals.specs.Left.{left}
 use Rattle.buffers.specs.Written.{in-front}
 use Rattle.lookup.specs.declared.Case.{Case}
 use Rattle.lookup.specs.declared.Called.{Called}
@@ -16,11 +17,6 @@ case-from method n m x0 r1 r2 s1 s2 r3 b =
 unfoldable pub called : (refusal share count : ℕ) → Called
 called zero share count = record { refusal = 0; share = share; count = count }
 called (suc k) share count = record { refusal = suc k; share = 0; count = 0 }
-
--- what a lent buffer holds: the new contents where nothing is refused, else the old
-unfoldable pub left : (refusal : ℕ) → (new old : List ℕ) → List ℕ
-left zero new old = new
-left (suc k) new old = old
 
 -- the plain call
 unfoldable pub plain-reply : Case → (table scratch : List ℕ) → Called

@@ -1,3 +1,4 @@
 -- The laws of refusals and of their tests.
 pub mod Checks
 pub mod Tests
+pub mod Left

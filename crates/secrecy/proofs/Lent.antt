@@ -22,7 +22,8 @@ use Rattle.lookup.proofs.Promises.{log-long}
 use Rattle.lookup.proofs.Methods.{of-each, known-2-or-3}
 use Rattle.lookup.proofs.Accepted.{Taken, not-refused}
 use Rattle.lookup.proofs.Refused.{log-not-refused, plain-case, logged-plain, plain-by-case, logged-by-plain, logged-by-rest}
-use Rattle.calls.specs.Reply.{left, logged-log}
+use Rattle.refusals.specs.Left.{left}
+use Rattle.calls.specs.Reply.{logged-log}
 use Rattle.secrecy.specs.Count.{single, chosen-case, mask-widths, value-at, shows, count, call-count}
 use Rattle.secrecy.specs.Promises.{Tells-nothing, Choices-accepted, Lent-log-counted, Call-tells-nothing}
 use Rattle.secrecy.proofs.Hiding.{hiding}

@@ -16,7 +16,8 @@ use Rattle.lookup.specs.Promises.{Cleared-taken, Log-long}
 use Rattle.lookup.proofs.Accepted.{accepted, accepted-bounded}
 use Rattle.lookup.proofs.Refused.{log-not-refused, logged-by-plain}
 use Rattle.lookup.proofs.Promises.{taken-right, cleared-taken, log-long}
-use Rattle.calls.specs.Reply.{called, left, logged-reply, logged-log}
+use Rattle.refusals.specs.Left.{left}
+use Rattle.calls.specs.Reply.{called, logged-reply, logged-log}
 use Rattle.call_checks.proofs.Checking.{at-case, at-plain}
 use Rattle.log_print.specs.Lines.{line-of, answer-lines}
 use Rattle.sheet.specs.Print.{reply}
