@@ -1,0 +1,32 @@
+-- What is promised of a frame holds.
+use mathlib.Core.Path.{_≡_, refl, sym, ap, _∙_}
+use mathlib.Core.List.{List, [], _∷_}
+use Prim.Native.Nat.{ℕ}
+use lib.ListN.{take, drop, replicate, length-replicate}
+use lib.Seq.{take-at, drop-at}
+use Rattle.refusals.specs.Left.{left}
+use Rattle.table.specs.Balanced.{at}
+use Rattle.sbox.specs.Tabulate.{tabulate}
+use Rattle.aes.specs.State.{State, four, column, byte, state-of}
+use Rattle.frame.specs.Shares.{Shares, share, joined}
+use Rattle.frame.specs.Frame.{cleared, flat, encrypted, frame-reply, frame-scratch}
+use Rattle.frame.specs.Promises.{ciphertext, Frame-right, Scratch-cleared}
+use Rattle.frame.proofs.Bytes.{shares-bytes}
+use Rattle.frame.proofs.Right.{frame-joins}
+
+-- the shares' bytes, joined, are the joined state's bytes
+flat-joins : (s : Shares) → ciphertext (encrypted 0 s) ≡ flat (joined s)
+unfolding ciphertext tabulate encrypted left flat joined state-of byte column four at share
+flat-joins s = refl
+
+pub frame-right : Frame-right
+unfolding Frame-right frame-reply
+frame-right p k1 k2 k3 random scratch hp h1 h2 h3 small e =
+    rw e (flat-joins _ ∙ ap flat (frame-joins random small (k1 ∷ k2 ∷ k3 ∷ []) (shares-bytes k1 k2 k3 h1 h2 h3) p hp))
+
+pub scratch-cleared : Scratch-cleared
+unfolding Scratch-cleared frame-scratch left cleared
+scratch-cleared random scratch e =
+    let zeros : List ℕ = replicate 256 0 in
+    let long = length-replicate {A = ℕ} 256 0 in
+    rw e (take-at zeros (drop 256 scratch) 256 long, drop-at zeros (drop 256 scratch) 256 long)

@@ -1,0 +1,11 @@
+-- `frame::lookups::word_masks` meets its contract.
+use borrow.Author.Needs.{needs}
+use Rattle.frame.proofs.Placed.{word-masks-made}
+use Rattle.frame.proofs.lookups.word_masks.Statement.{statement}
+use Rattle.frame.proofs.lookups.word_masks.Tie as tie
+
+pub word-masks-spec : {M : Type 1} → statement M
+word-masks-spec =
+    tie.close
+    (tie.spec (λ c. search needs) (λ c. search needs) (λ c. search needs) (λ c. search needs) (λ c. search needs) (λ c. search needs)
+    (λ c. search needs) (λ c. search word-masks-made))

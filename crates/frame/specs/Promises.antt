@@ -1,0 +1,34 @@
+-- What is promised of a frame. Each is a type; its proof stands in proofs/Promises.antt.
+use mathlib.Core.Path.{_≡_}
+use mathlib.Core.List.{List, [], _∷_}
+use Prim.Native.Nat.{ℕ, _<_}
+use lib.ListN.{take, drop, replicate}
+use Rattle.bits.specs.Xor.{_⊕_}
+use Rattle.table.specs.Balanced.{at}
+use Rattle.sbox.specs.Tabulate.{tabulate}
+use Rattle.aes.specs.State.{State, byte}
+use Rattle.aes.specs.Cipher.{cipher}
+use Rattle.frame.specs.declared.Encrypted.{Encrypted}
+use Rattle.frame.specs.Shares.{joined}
+use Rattle.frame.specs.Frame.{frame-refusal, flat, frame-reply, frame-scratch}
+
+-- its bytes are bytes, as those of the code's arrays are
+unfoldable pub Bytes : State → Type 0
+Bytes s = (r c : ℕ) → byte s r c < 256
+
+-- the sixteen bytes that the three shares join to
+unfoldable pub ciphertext : Encrypted → List ℕ
+ciphertext e = tabulate 16 (λ i. at (e .share1) i ⊕ at (e .share2) i ⊕ at (e .share3) i)
+
+-- in every accepted frame the three shares join to FIPS 197's ciphertext of the plaintext under the joined key
+unfoldable pub Frame-right : Type 0
+Frame-right =
+    (p k1 k2 k3 : State) (random scratch : List ℕ) → Bytes p → Bytes k1 → Bytes k2 → Bytes k3 → ((i : ℕ) → at random i < 256) →
+    frame-refusal random scratch ≡ 0 →
+    ciphertext (frame-reply p k1 k2 k3 random scratch) ≡ flat (cipher p (joined (k1 ∷ k2 ∷ k3 ∷ [])))
+
+-- after it the first 256 bytes of the scratch are 0, and those behind them are unchanged
+unfoldable pub Scratch-cleared : Type 0
+Scratch-cleared =
+    (random scratch : List ℕ) → frame-refusal random scratch ≡ 0 →
+    (take 256 (frame-scratch random scratch) ≡ replicate 256 0) × (drop 256 (frame-scratch random scratch) ≡ drop 256 scratch)
