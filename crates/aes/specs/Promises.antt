@@ -5,7 +5,7 @@ use mathlib.Core.List.{List, [], _∷_, _++_, map}
 use Prim.Native.Nat.{ℕ, zero, suc, _+_, _/_, _%_}
 use lib.Dec.{eqb}
 use Rattle.aes.specs.State.{Word, State, state-from, add-words}
-use Rattle.aes.specs.Expansion.{rot-word, sub-word, rcon, word}
+use Rattle.aes.specs.Expansion.{rot-word, sub-word, rcon, round-key, word}
 use Rattle.aes.specs.Cipher.{cipher}
 
 -- so many bytes of a number, highest first, as FIPS 197 prints them
@@ -30,15 +30,15 @@ example-words =
     ∷ 0xd014f9a8 ∷ 0xc9ee2589 ∷ 0xe13f0cc8 ∷ 0xb6630ca6
     ∷ []
 
--- this many words of the expansion, from w[i] on
-unfoldable pub words-from : (key : State) → (i count : ℕ) → List Word
-words-from key i zero = []
-words-from key i (suc k) = word key i ∷ words-from key (suc i) k
+-- the words of round keys 0 to i
+unfoldable pub words-up-to : (key : State) → (i : ℕ) → List Word
+words-up-to key zero = key
+words-up-to key (suc i) = words-up-to key i ++ round-key key (suc i)
 
 -- FIPS 197, appendix A.1: the expansion of the example key, with all 44 words; B: the example cipher; C.1: the one for AES-128
 unfoldable pub Appendices : Type 0
 Appendices =
-    (words-from example-key 0 44 ≡ map (bytes 4) example-words)
+    (words-up-to example-key 10 ≡ map (bytes 4) example-words)
     × (cipher (block 0x3243f6a8885a308d313198a2e0370734) example-key ≡ block 0x3925841d02dc09fbdc118597196a0b32)
     × (cipher (block 0x00112233445566778899aabbccddeeff) (block 0x000102030405060708090a0b0c0d0e0f) ≡ block 0x69c4e0d86a7b0430d8cdb78070b4c55a)
 

@@ -10,7 +10,7 @@ use Rattle.aes.proofs.rcon.Tie as tie
 
 returns : tie.Need-returns
 unfolding rcon
-returns c = rw (constants (c .args .i) (search needs))
+returns c = ap (λ (b : ℕ). b ∷ 0 ∷ 0 ∷ 0 ∷ []) (constants (c .args .i) (search needs))
 
 pub rcon-spec : {M : Type 1} → statement M
 rcon-spec = tie.close (tie.spec (λ c. search needs) returns)
