@@ -3,12 +3,13 @@
 import sys
 
 import check_calls
+import check_frame
 import check_print
 import check_sbox
 import check_small
 
 # For each module, what holds it to the documents. The quick parts come first: a wrong model is then noticed sooner.
-PARTS = {"model": (check_small, check_print, check_calls), "sbox": (check_sbox,)}
+PARTS = {"model": (check_small, check_print, check_calls), "sbox": (check_sbox,), "frame": (check_frame,)}
 
 
 # The name, what the module says and what it should say, of all that differs.
