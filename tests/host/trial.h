@@ -3,6 +3,7 @@
 #define TRIAL_H
 
 #include "groups.h"
+#include "numbers.h"
 
 #include <stddef.h>
 #include <stdint.h>
@@ -20,9 +21,6 @@ struct trial {
 
 // How many calls met each refusal.
 extern unsigned long met[256];
-
-// A number below the limit. The numbers look random and are the same in every run.
-uint32_t below(uint32_t limit);
 
 // 2 to the exponent.
 uint32_t power(uint32_t exponent);

@@ -13,6 +13,7 @@ sys.path.insert(0, str(HOST.parent / "model"))
 from edits import edited
 
 COMPILE = ["cc", "-std=c99", "-O2", f"-I{HOST}", f"-I{HOST.parents[1] / 'include'}"]
+TEST = ("plain_call_test", "scratch", "trial", "numbers", "groups")
 # The copy that is called stands beside the reference that it is compared with.
 RENAMED = "-Dreference_plain_call=wrong_plain_call"
 
@@ -208,7 +209,7 @@ def build(*words):
 
 
 def build_objects(folder):
-    for name in ("plain_call_test", "scratch", "trial", "groups", "reference"):
+    for name in (*TEST, "reference"):
         build("-c", HOST / f"{name}.c", "-o", folder / f"{name}.o")
     build(RENAMED, "-c", HOST / "wrong_call.c", "-o", folder / "wrong_call.o")
 
@@ -218,7 +219,7 @@ def run(folder, copy, *group, common=False):
     (folder / "copy.c").write_text(copy)
     build(RENAMED, "-c", folder / "copy.c", "-o", folder / "copy.o")
     compared = folder / ("copy.c" if common else "reference.o")
-    objects = [folder / f"{name}.o" for name in ("plain_call_test", "scratch", "trial", "groups", "wrong_call", "copy")]
+    objects = [folder / f"{name}.o" for name in (*TEST, "wrong_call", "copy")]
     build(*objects, compared, "-o", folder / "test")
     return subprocess.run([folder / "test", *group], capture_output=True, text=True, timeout=60)
 
