@@ -1,5 +1,5 @@
-// Cippazhey for C and C++: the masked table lookup on three shares, the numbers of its refusals, what its caller owes, and
-// the call that clears its scratch.
+// Cippazhey for C and C++: the masked table lookup on three shares, a whole AES-128 frame on three shares, the numbers of
+// their refusals, what their caller owes, and the call that clears a buffer.
 // Link libcippazhey.a, which `make lib` writes to target/staticlib/. It needs memset and memcpy at most.
 #ifndef CIPPAZHEY_H
 #define CIPPAZHEY_H
@@ -23,12 +23,16 @@ enum cippazhey_refusal {
     CIPPAZHEY_REFUSED_INPUT_SHARE = 10,     // x0, r1, r2 or r3 is 2^n or more
     CIPPAZHEY_REFUSED_OUTPUT_MASK = 11,     // s1 or s2 is 2^m or more
     CIPPAZHEY_REFUSED_BIT = 12,             // b is above 0 under method 2, or above 1 under method 3
-    CIPPAZHEY_REFUSED_SCRATCH_LENGTH = 13,  // scratch has fewer than 2^n bytes
-    CIPPAZHEY_REFUSED_DIRTY_SCRATCH = 19    // one of the first 2^n bytes of scratch is not zero
+    CIPPAZHEY_REFUSED_RANDOM_LENGTH = 26,   // a frame is not lent exactly 632 random bytes
+    CIPPAZHEY_REFUSED_SCRATCH_LENGTH = 13,  // scratch has fewer than 2^n bytes, for a frame fewer than 256
+    CIPPAZHEY_REFUSED_DIRTY_SCRATCH = 19    // one of the first 2^n bytes of scratch is not zero; a frame clears them itself
 };
 
-// A call needs 2^n bytes of scratch. This many suffice for every width.
+// A lookup needs 2^n bytes of scratch. This many suffice for every width, and for a frame.
 #define CIPPAZHEY_SCRATCH_LENGTH 256
+
+// A frame takes this many random bytes.
+#define CIPPAZHEY_RANDOM_LENGTH 632
 
 // Looks up the secret x = x0 ^ r1 ^ r2 in a table of 2^n entries of m bits, without ever forming x.
 // Accepted, it returns the share table[x] ^ s1 ^ s2; s1 and s2 are the other two shares of table[x].
@@ -71,6 +75,44 @@ uint16_t cippazhey_plain_call(uint32_t method, uint32_t n, uint32_t m, uint32_t 
                               uint32_t s2, uint32_t r3, uint32_t b, const uint8_t *table, size_t table_length,
                               uint8_t *scratch, size_t scratch_length);
 
+// Encrypts one block by AES-128 (FIPS 197) with key and state in three shares; the plaintext comes unshared. Accepted, the
+// shares that it writes join to the ciphertext: share1 ^ share2 ^ share3. Blocks have FIPS 197's order of bytes.
+//
+//   plaintext           16 bytes; only read
+//   key1, key2, key3    the three shares of the key, which is key1 ^ key2 ^ key3, 16 bytes each; only read. Round constants
+//                       are added to key1's share of the round keys.
+//   random              632 bytes; only read. First r1 and r2 of the plaintext, 16 bytes each: its shares are
+//                       plaintext ^ r1 ^ r2, r1, r2. Then s1, s2, r3 of each of the 200 lookups: in each of ten rounds, the
+//                       four bytes of the rotated key word come before the sixteen of the state.
+//   scratch             at least 256 bytes, whatever they hold: the first 256 are cleared before each lookup and after the
+//                       last, and are zero afterwards. What stands behind them stays.
+//   share1 .. share3    16 bytes each. share1 comes of the lookups' answers and key1, share2 of each s1 and key2, share3 of
+//                       each s2 and key3.
+//
+// What the caller owes:
+//   - Each pointer points to 16 bytes, or to as many as its length says. NULL is allowed only with length 0.
+//   - Scratch and the three results overlap neither each other nor what is read, and nothing else touches any of them while
+//     the call runs.
+//   - The random bytes are uniform, independent, secret, and new for each frame: none is ever used twice. No call can check
+//     that. After the call they are cleared with cippazhey_clear: beside them, one share of the state is as good as all.
+//   - key2 and key3 are uniform, independent masks, new for each frame. A key that is kept in shares gets new ones without
+//     being joined: add two new masks to key1, and one of them to key2, the other to key3.
+//
+// What is proved of the source:
+//   - Every call returns, and reads and writes only the bytes it is lent.
+//   - The refusal, the results and every byte of scratch are as the request for a frame lays them out. In every accepted
+//     frame the results join to the ciphertext of FIPS 197. A refused call writes nothing.
+//   - Any two of the values that the logs of one layer's sixteen lookups list tell nothing of the state, all masks being
+//     uniform and independent.
+// What is not proved: that of two values of a whole frame, how long a call takes, what the compiled code holds.
+// What is not cleared: the call's own stack and registers, which held shares.
+//
+// Returned is the refusal. Only the number of random bytes and the length of scratch are refused, in this order. Refused,
+// scratch and the results stay as they were.
+uint32_t cippazhey_encrypt_frame(const uint8_t plaintext[16], const uint8_t key1[16], const uint8_t key2[16],
+                                 const uint8_t key3[16], const uint8_t *random, size_t random_length, uint8_t *scratch,
+                                 size_t scratch_length, uint8_t share1[16], uint8_t share2[16], uint8_t share3[16]);
+
 // Sets every byte of a buffer to zero: scratch, before the first lookup and after each. Nothing is refused.
 // A memset is not enough: a compiler may drop it where the buffer is not read again. It does not see into this call.
 //
@@ -79,15 +121,15 @@ uint16_t cippazhey_plain_call(uint32_t method, uint32_t n, uint32_t m, uint32_t 
 //
 // What is proved of the source: the call returns, and every byte of the buffer is zero afterwards; it writes no other.
 // What is not: that the compiled call and the firmware's memset, which it becomes, do so. That is tested.
-// What is not cleared: copies on the stack and in registers, the lookup's own or those that the caller's compiler made.
+// What is not cleared: copies on the stack and in registers, a call's own or those that the caller's compiler made.
 void cippazhey_clear(uint8_t *buffer, size_t length);
 
-// The refusal in a result: one of the numbers above, CIPPAZHEY_ACCEPTED where there is none.
+// The refusal in a lookup's result: one of the numbers above, CIPPAZHEY_ACCEPTED where there is none.
 static inline unsigned cippazhey_refusal_of(uint16_t result) {
     return result / 256u;
 }
 
-// The share in a result.
+// The share in a lookup's result.
 static inline uint8_t cippazhey_share_of(uint16_t result) {
     return (uint8_t)(result % 256u);
 }

@@ -1,0 +1,48 @@
+# Frames with the shares that the model finds, for tests/host/frame_test.c. Run: python3 tests/model/frame_cases.py prints them as C, by
+# tests/host/frame_cases.h.
+import random
+
+import fips_197
+import frame
+
+ZEROS, ONES, COUNTED = [0] * 16, [255] * 16, list(range(16))
+
+
+# A plaintext, three key shares and the random bytes of each frame. Without masks share one is the ciphertext; a mask alone shows where it
+# goes.
+def frames():
+    for plaintext, key in ((fips_197.PLAINTEXT_B, fips_197.KEY_B), (fips_197.PLAINTEXT_C, fips_197.KEY_C)):
+        yield plaintext, [key, ZEROS, ZEROS], [0] * 632
+        yield plaintext, [key, ONES, ONES], [place % 251 for place in range(632)]
+    yield ZEROS, [ZEROS, ZEROS, ZEROS], [0] * 632
+    yield ONES, [ONES, ONES, ONES], [255] * 632
+    yield ZEROS, [ZEROS, COUNTED, ZEROS], [0] * 632
+    yield ZEROS, [ZEROS, ZEROS, COUNTED], [0] * 632
+    for place in (0, 16, 31, 32, 33, 34, 43, 44, 91, 92, 572, 584, 629, 630, 631):
+        yield COUNTED, [COUNTED, ZEROS, ZEROS], [0] * place + [1] + [0] * (631 - place)
+    source = random.Random(2)
+    for _ in range(9):
+        yield source.randbytes(16), [source.randbytes(16) for _ in range(3)], source.randbytes(632)
+
+
+def array(numbers):
+    return "{" + ", ".join(map(str, numbers)) + "}"
+
+
+def arrays(shared):
+    return "{" + ", ".join(map(array, shared)) + "}"
+
+
+# The text of a C file with these frames and the shares of each.
+def in_c(some_frames):
+    lines = ['#include "frame_cases.h"', "const struct frame_case frame_cases[] = {"]
+    for plaintext, key, lent in some_frames:
+        refusal, shares, _ = frame.encrypt_frame(plaintext, list(map(list, key)), list(lent), [0] * 256, key)
+        assert refusal == 0
+        lines.append(f"    {{{array(plaintext)}, {arrays(key)}, {array(lent)}, {arrays(shares)}}},")
+    lines += ["};", "const size_t frame_case_count = sizeof frame_cases / sizeof *frame_cases;", ""]
+    return "\n".join(lines)
+
+
+if __name__ == "__main__":
+    print(in_c(frames()), end="")
