@@ -1,0 +1,216 @@
+# The control of tests/host/frame_test.c: wrong frames, each of which the group named beside it must notice. A wrong frame is the reference
+# with an edit, exported in the place of the archive's call. In a common fault the reference that it is compared with has the edit too, and
+# FIPS 197's figures, the model's shares or what a frame must leave have to notice it. Run: python3 tests/host/wrong_frames.py (status 0 if the
+# unedited reference passes whole and every wrong frame is noticed, 1 otherwise, with a line for each that is not).
+import signal
+import subprocess
+import sys
+from pathlib import Path
+
+from controls import end_control
+
+HOST = Path(__file__).resolve().parent
+sys.path.insert(0, str(HOST.parent / "model"))
+import frame_cases
+from edits import edited
+
+# Fewer random frames than the test has are enough here.
+COMPILE = ["cc", "-std=c99", "-O1", f"-I{HOST}", f"-I{HOST.parents[1] / 'include'}", "-DRANDOM_FRAMES=300"]
+# The test, and the other calls of the archive, which it makes too.
+TEST = ("frame_test", "frame_buffers", "frame_trial", "numbers", "groups", "aes", "wrong_call", "reference")
+EXPORTED = "-Dreference_encrypt_frame=cippazhey_encrypt_frame"
+
+# The reference's lines that the edits put something before.
+CHECK = "    uint32_t number = refusal(random_length, scratch_length);\n"
+REFUSED = "    if (number != 0) {\n        return number;"
+RANDOM_CHECK = "    if (random_length != RANDOM_LENGTH) {\n"
+ENCRYPT = "    encrypt(state, words, (struct lent){random, scratch});\n"
+RESULT = "        share1[place] = state[place][0];\n"
+# What they replace.
+MASKS = "lent.random + 32 + 3 * (20 * (round - 1) + j)"
+NAMED_MASKS = "s1 = masks[0], s2 = masks[1], r3 = masks[2]"
+CONSTANT = "word[0][0] ^= round_constant(round);"
+KEY_SHARES = "{key1[place], key2[place], key3[place]}"
+CLEAR = "memset(lent.scratch, 0, SCRATCH_LENGTH);"
+LAST_CLEAR = "        add_round_key(state, words, round);\n    }\n    clear(lent);\n"
+
+
+def before(line, *added):
+    return line, "".join(f"    {each}\n" for each in added) + line
+
+
+# What is done at each byte, up to a length.
+def each_byte(length, statement):
+    return f"for (size_t at = 0; at < {length}; at++) {{ {statement} }}"
+
+
+# A byte is read, whatever it is.
+def reads(byte):
+    return before(ENCRYPT, f"(void)*(volatile const uint8_t *)&{byte};")
+
+
+# A byte is written, with what it holds.
+def writes_back(line, byte):
+    return before(line, f"*(volatile uint8_t *)&{byte} = {byte};")
+
+
+# What the shares join to stays the same: only the shares tell.
+OTHER_SHARES = {
+    "round constant on the second share": (CONSTANT, "word[0][1] ^= round_constant(round);"),
+    "round constant on the third share": (CONSTANT, "word[0][2] ^= round_constant(round);"),
+    "round constant on all shares": (CONSTANT, "for (int share = 0; share < 3; share++) { word[0][share] ^= round_constant(round); }"),
+    "state's masks before the key word's": (MASKS, MASKS.replace("+ j", "+ (j + 16) % 20")),
+    "all key words' masks first": (MASKS, "lent.random + 32 + 3 * (j < 4 ? 4 * (round - 1) + j : 36 + 16 * (round - 1) + j)"),
+    "rounds' masks from the last on": (MASKS, MASKS.replace("round - 1", "10 - round")),
+    "lookups' masks before the plaintext's": (MASKS, MASKS.replace(" + 32", "")),
+    "masks of the word before its rotation": ("look_up(word[j], round, j, lent)", "look_up(word[j], round, (j + 1) % 4, lent)"),
+    "state's masks row by row": ("round, 4 + place, lent", "round, 4 + place % 4 * 4 + place / 4, lent"),
+    "state's masks after its rows are shifted": ("round, 4 + place, lent", "round, 4 + (place * 13) % 16, lent"),
+    "s1 and s2 exchanged": (NAMED_MASKS, "s1 = masks[1], s2 = masks[0], r3 = masks[2]"),
+    "r3 before s1 and s2": (NAMED_MASKS, "s1 = masks[1], s2 = masks[2], r3 = masks[0]"),
+    "s2 left out": (NAMED_MASKS, "s1 = masks[0], s2 = 0, r3 = masks[2]"),
+    "s1 for s2 too": (NAMED_MASKS, "s1 = masks[0], s2 = s1, r3 = masks[2]"),
+    "no masks in the last lookup": (NAMED_MASKS, NAMED_MASKS.replace("masks[1]", "round == 10 && j == 19 ? 0 : masks[1]")),
+    "the answer as second share": ("byte[0] = lent.scratch[r3];\n    byte[1] = s1;", "byte[1] = lent.scratch[r3];\n    byte[0] = s1;"),
+    "key shares in another order": (KEY_SHARES, "{key2[place], key1[place], key3[place]}"),
+    "key joined": (KEY_SHARES, "{key1[place] ^ key2[place] ^ key3[place], 0, 0}"),
+    "results in another order": ("share2[place] = state[place][1];\n        share3", "share3[place] = state[place][1];\n        share2"),
+    "result joined": before(RESULT, "for (int each = 1; each < 3; each++) { state[place][0] ^= state[place][each]; state[place][each] = 0; }"),
+}
+OTHER_CIPHERS = {
+    "rows shifted the other way": ("(c + r) % 4", "(c + 4 - r) % 4"),
+    "rows not shifted": ("(c + r) % 4", "c"),
+    "columns mixed in the last round": ("if (round < ROUNDS)", "if (round <= ROUNDS)"),
+    "columns not mixed in round 9": ("if (round < ROUNDS)", "if (round < ROUNDS - 1)"),
+    "columns mixed upside down": ("tripled(column[(r + 1) % 4][share])", "tripled(column[(r + 3) % 4][share])"),
+    "the third share not mixed": ("uint8_t(*column)[SHARES] = before + place - r;\n        for (int share = 0; share < SHARES", "uint8_t(*column)[SHARES] = before + place - r;\n        for (int share = 0; share < SHARES - 1"),
+    "key word not rotated": ("before[(j + 1) % 4]", "before[j]"),
+    "key word rotated the other way": ("before[(j + 1) % 4]", "before[(j + 3) % 4]"),
+    "round constants not reduced": ("aes_doubled(round_constant(round - 1))", "(uint8_t)(1 << (round - 1))"),
+    "the first key not added": ("    add_round_key(state, words, 0);\n", ""),
+    "the last key not added": ("        add_round_key(state, words, round);\n", "        if (round < ROUNDS) { add_round_key(state, words, round); }\n"),
+    "nine rounds": ("round <= ROUNDS", "round < ROUNDS"),
+    "plaintext row by row": ("(plaintext[place] ^ r1)", "(plaintext[place % 4 * 4 + place / 4] ^ r1)"),
+    "all refused": (CHECK, "    uint32_t number = 26;\n"),
+}
+REFUSALS = {
+    "13 before 26": before(RANDOM_CHECK, "if (scratch_length < SCRATCH_LENGTH) { return 13; }"),
+    "13 for 26": ("return 26;", "return 13;"),
+    "631 random bytes accepted": ("random_length != RANDOM_LENGTH", "random_length < RANDOM_LENGTH - 1 || random_length > RANDOM_LENGTH"),
+    "more random bytes accepted": ("random_length != RANDOM_LENGTH", "random_length < RANDOM_LENGTH"),
+    "fewer random bytes accepted": ("random_length != RANDOM_LENGTH", "random_length > RANDOM_LENGTH"),
+    "scratch of 255 accepted": ("scratch_length < SCRATCH_LENGTH", "scratch_length < SCRATCH_LENGTH - 1"),
+    "scratch of 256 refused": ("scratch_length < SCRATCH_LENGTH", "scratch_length <= SCRATCH_LENGTH"),
+    "longer scratch refused": ("scratch_length < SCRATCH_LENGTH", "scratch_length != SCRATCH_LENGTH"),
+    "results written on refusal": before(REFUSED, "if (number != 0) { memset(share1, 0, 16); }"),
+    "the third result written on refusal": before(REFUSED, "if (number == 13) { share3[15] ^= 1; }"),
+    "scratch cleared on refusal": before(REFUSED, "if (number == 26 && scratch_length > 0) { memset(scratch, 0, scratch_length); }"),
+    "the last byte of a short scratch": before(REFUSED, "if (number == 13 && scratch_length > 0) { scratch[scratch_length - 1] ^= 1; }"),
+}
+CONTENTS = {
+    "scratch not cleared after the last lookup": (LAST_CLEAR, LAST_CLEAR.replace("    clear(lent);\n", "")),
+    "255 bytes cleared": (CLEAR, CLEAR.replace("SCRATCH_LENGTH", "255")),
+    "257 bytes cleared": (CLEAR, CLEAR.replace("SCRATCH_LENGTH", "257")),
+    "tail cleared too": before(ENCRYPT, "memset(scratch, 0, scratch_length);"),
+    "scratch cleared from its end": before(ENCRYPT, "scratch += scratch_length - SCRATCH_LENGTH;"),
+    "dirty scratch refused": before(ENCRYPT, each_byte("SCRATCH_LENGTH", "if (scratch[at] != 0) { return 19; }")),
+    "dirty byte 255 refused": before(ENCRYPT, "if (scratch[255] != 0) { return 19; }"),
+    "a byte of 77 refused": before(ENCRYPT, "if (scratch[9] == 77) { return 19; }"),
+    "dirt in the result": before(ENCRYPT, "state[0][0] ^= scratch[200];"),
+    "scratch given back": (ENCRYPT, f"    uint8_t given[256];\n    memcpy(given, scratch, 256);\n{ENCRYPT}    memcpy(scratch, given, 256);\n"),
+}
+IN_A_ROW = {
+    "shares of the first frame kept": before(
+        RESULT, "static int times;", "static uint8_t kept[16];", "if (times++ < 16) { kept[place] = state[place][0]; }", "state[place][0] = kept[place];"
+    ),
+    "a frame after a refused one": before(REFUSED, "static uint32_t last;", "if (last == 26 && number == 0) { last = 0; return 26; }", "last = number;"),
+}
+LONG_BUFFERS = {
+    f"{name} cut to {bits} bits": before(CHECK, f"{name} &= {hex(2**bits - 1)}u;")
+    for name in ("random_length", "scratch_length")
+    for bits in (8, 16, 32)
+}
+ENDS_OF_PAGES = {
+    "random byte 632 read": reads("random[632]"),
+    "the byte before the random ones read": reads("random[-1]"),
+    "plaintext's byte 16 read": reads("plaintext[16]"),
+    "the byte before the first key share read": reads("key1[-1]"),
+    "byte 16 of the third key share read": reads("key3[16]"),
+    "the byte behind scratch read": reads("scratch[scratch_length]"),
+    "byte 16 of a result read": reads("share2[16]"),
+    "the byte before a result written": writes_back(ENCRYPT, "share1[-1]"),
+    "plaintext written back": writes_back(ENCRYPT, "((uint8_t *)plaintext)[0]"),
+    "a key share written back": writes_back(ENCRYPT, "((uint8_t *)key2)[15]"),
+    "a random byte written back": writes_back(ENCRYPT, "((uint8_t *)random)[631]"),
+    "a result written back on refusal": writes_back(REFUSED, "share3[15]"),
+    "scratch written back on refusal": before(REFUSED, "if (scratch_length > 0) { *(volatile uint8_t *)scratch = scratch[0]; }"),
+}
+RANDOM_FRAMES = {
+    **{name: OTHER_SHARES[name] for name in ("round constant on the second share", "s1 and s2 exchanged", "results in another order")},
+    "one plaintext in sixteen": before(ENCRYPT, "state[5][1] ^= plaintext[3] % 16 == 7;"),
+    "one key in sixteen": before(ENCRYPT, "words[2][1][2] ^= key3[9] % 16 == 7;"),
+    "one alignment of scratch": before(ENCRYPT, "state[0][0] ^= (uintptr_t)scratch % 16 == 9;"),
+    "a random byte changed": before(ENCRYPT, "((uint8_t *)random)[300] ^= 1;"),
+    "a key share cleared": before(ENCRYPT, "memset((uint8_t *)key3, 0, 16);"),
+    "the byte behind a result": before(ENCRYPT, "share3[16] ^= 1;"),
+    "the byte before scratch": before(ENCRYPT, "scratch[-1] ^= 1;"),
+    "the byte behind a long scratch": before(ENCRYPT, "scratch[scratch_length] ^= scratch_length > 400;"),
+}
+WRONG_FRAMES = {
+    "fips_197": OTHER_CIPHERS,
+    "refusals": REFUSALS,
+    "contents_of_scratch": CONTENTS,
+    "in_a_row": IN_A_ROW,
+    "long_buffers": LONG_BUFFERS,
+    "ends_of_pages": ENDS_OF_PAGES,
+    "random_frames": RANDOM_FRAMES,
+}
+COMMON_FAULTS = {
+    "stored_frames": OTHER_SHARES,
+    "fips_197": {name: OTHER_CIPHERS[name] for name in ("rows shifted the other way", "columns mixed in the last round", "key word not rotated")},
+    "refusals": {name: REFUSALS[name] for name in ("13 before 26", "results written on refusal", "scratch cleared on refusal")},
+    "contents_of_scratch": {name: CONTENTS[name] for name in ("scratch not cleared after the last lookup", "tail cleared too")},
+    "random_frames": {name: OTHER_CIPHERS[name] for name in ("rows shifted the other way", "round constants not reduced")},
+}
+
+
+def build(*words):
+    subprocess.run([*COMPILE, *words], check=True, timeout=60)
+
+
+def build_objects(folder):
+    (folder / "frame_cases.c").write_text(frame_cases.in_c(frame_cases.frames()))
+    build("-c", folder / "frame_cases.c", "-o", folder / "frame_cases.o")
+    for name in (*TEST, "frame_reference"):
+        build("-c", HOST / f"{name}.c", "-o", folder / f"{name}.o")
+
+
+# The test program over a copy of the reference, run on a group, or on all. In a common fault the copy is also what it is compared with.
+def run(folder, copy, *group, common=False):
+    (folder / "copy.c").write_text(copy)
+    objects = [folder / f"{name}.o" for name in (*TEST, "frame_cases")]
+    other = ["-Wl,--defsym=cippazhey_encrypt_frame=reference_encrypt_frame"] if common else [EXPORTED, folder / "frame_reference.o"]
+    build(folder / "copy.c", *objects, *other, "-o", folder / "test")
+    return subprocess.run([folder / "test", *group], capture_output=True, text=True, timeout=60)
+
+
+# A wrong one makes a comparison come out ill, or is stopped by the system.
+def noticed(done):
+    return done.returncode == -signal.SIGSEGV or (done.returncode == 1 and "DIFFERS: " in done.stdout)
+
+
+def complaints(folder):
+    build_objects(folder)
+    reference = (HOST / "frame_reference.c").read_text()
+    if run(folder, reference).returncode != 0:
+        yield "the reference itself does not pass"
+    for common, groups in ((False, WRONG_FRAMES), (True, COMMON_FAULTS)):
+        for group, frames in groups.items():
+            for name, (old, new) in frames.items():
+                done = run(folder, edited(reference, old, new), group, common=common)
+                if not noticed(done):
+                    yield f"{name}, {common=}: {group} does not notice it\n{done.stdout}"
+        print(sum(map(len, groups.values())), "common faults" if common else "wrong frames")
+
+
+end_control(complaints)
