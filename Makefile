@@ -19,10 +19,11 @@ bench:
 	@rt check bench > target/bench.log 2>&1 || { cat target/bench.log; exit 1; }
 	@target/bin/bench < $(SHEET)
 
-# a masked lookup from C, on the proved archive
+# masked lookups and a whole frame from C, on the proved archive
 demo: lib
 	@cc -std=c99 -O2 -Wall -Wextra -Iinclude examples/lookup.c target/staticlib/libcippazhey.a -o target/demo
-	@target/demo
+	@cc -std=c99 -O2 -Wall -Wextra -Iinclude examples/frame.c target/staticlib/libcippazhey.a -o target/demo_frame
+	@target/demo && target/demo_frame
 
 # the S-box of FIPS 197, printed by the proved program
 sbox:

@@ -1,15 +1,19 @@
-// The header against the archive, in C and in C++: the calls' types, each number of the enum, the scratch length, the names of the
-// parameters, and the helpers. Prints a line for each that is wrong; exits with 1 if one is. Compile it with CALL_BY_NAME and
-// CLEAR_BY_NAME, calls whose arguments are the names of the parameters in the header's order.
+// The header against the archive, in C and in C++: the calls' types, each number of the enum, both lengths, the names of the parameters, and
+// the helpers. Prints a line for each that is wrong; exits with 1 if one is. Compile it with CALL_BY_NAME, FRAME_BY_NAME and CLEAR_BY_NAME,
+// calls whose arguments are the names of the parameters in the header's order.
 #include "cippazhey.h"
 #include "cippazhey.h" // twice, for its guard
 
 #include <stdio.h>
+#include <string.h>
 
 // The types that the archive's calls have: a header that says another does not compile.
 typedef uint16_t plain_call(uint32_t, uint32_t, uint32_t, uint32_t, uint32_t, uint32_t, uint32_t, uint32_t, uint32_t, uint32_t,
                             const uint8_t *, size_t, uint8_t *, size_t);
 static plain_call *const typed_call = cippazhey_plain_call;
+typedef uint32_t frame_call(const uint8_t *, const uint8_t *, const uint8_t *, const uint8_t *, const uint8_t *, size_t, uint8_t *, size_t,
+                            uint8_t *, uint8_t *, uint8_t *);
+static frame_call *const typed_frame = cippazhey_encrypt_frame;
 typedef void clear_call(uint8_t *, size_t);
 static clear_call *const typed_clear = cippazhey_clear;
 
@@ -111,6 +115,44 @@ static void stated_scratch_length(void) {
     hold(cippazhey_refusal_of(less) == CIPPAZHEY_REFUSED_SCRATCH_LENGTH, "refusal below the stated scratch length", less);
 }
 
+// The blocks of a frame: a plaintext, three key shares and three results.
+enum { FRAME_BLOCKS = 7 };
+
+// Passes each block and each length for the parameter that the header gives its name to.
+static uint32_t frame_by_name(uint8_t blocks[FRAME_BLOCKS][16], const uint8_t *random, size_t random_length, size_t scratch_length) {
+    uint8_t scratch[CIPPAZHEY_SCRATCH_LENGTH];
+    const uint8_t *plaintext = blocks[0], *key1 = blocks[1], *key2 = blocks[2], *key3 = blocks[3];
+    uint8_t *share1 = blocks[4], *share2 = blocks[5], *share3 = blocks[6];
+    return FRAME_BY_NAME;
+}
+
+// FIPS 197, appendix C.1, with shares that all differ: by name and by place the frame must have the same results.
+static void encrypted_frame(void) {
+    static const uint8_t ciphertext[] = {0x69, 0xc4, 0xe0, 0xd8, 0x6a, 0x7b, 0x04, 0x30, 0xd8, 0xcd, 0xb7, 0x80, 0x70, 0xb4, 0xc5, 0x5a};
+    static uint8_t random[CIPPAZHEY_RANDOM_LENGTH + 1], scratch[CIPPAZHEY_SCRATCH_LENGTH], named[FRAME_BLOCKS][16], placed[FRAME_BLOCKS][16];
+    const size_t random_length = CIPPAZHEY_RANDOM_LENGTH, scratch_length = CIPPAZHEY_SCRATCH_LENGTH;
+    for (int place = 0; place < 16; place++) {
+        named[0][place] = (uint8_t)(17 * place);
+        named[2][place] = (uint8_t)(100 + 3 * place);
+        named[3][place] = (uint8_t)(200 - 5 * place);
+        named[1][place] = (uint8_t)(place ^ named[2][place] ^ named[3][place]);
+    }
+    memcpy(placed, named, sizeof named);
+    uint32_t by_place = typed_frame(placed[0], placed[1], placed[2], placed[3], random, random_length, scratch, scratch_length, placed[4],
+                                    placed[5], placed[6]);
+    hold(by_place == CIPPAZHEY_ACCEPTED, "refusal of a frame by place", (int)by_place);
+    hold(frame_by_name(named, random, random_length, scratch_length) == CIPPAZHEY_ACCEPTED, "refusal of a frame by name", 0);
+    for (int place = 0; place < 16; place++) {
+        hold((placed[4][place] ^ placed[5][place] ^ placed[6][place]) == ciphertext[place], "byte of the joined results", place);
+    }
+    for (int block = 0; block < FRAME_BLOCKS; block++) {
+        hold(memcmp(named[block], placed[block], 16) == 0, "block of a frame by name", block);
+    }
+    hold(frame_by_name(named, random, random_length - 1, scratch_length) == CIPPAZHEY_REFUSED_RANDOM_LENGTH, "one random byte less", 0);
+    hold(frame_by_name(named, random, random_length + 1, scratch_length) == CIPPAZHEY_REFUSED_RANDOM_LENGTH, "one random byte more", 0);
+    hold(frame_by_name(named, random, random_length, scratch_length - 1) == CIPPAZHEY_REFUSED_SCRATCH_LENGTH, "one byte of scratch less", 0);
+}
+
 static void cleared_buffer(void) {
     uint8_t room[] = {1, 2, 3, 4, 5};
     uint8_t *buffer = room + 1;
@@ -126,6 +168,7 @@ int main(void) {
     numbers_of_the_enum();
     places_of_the_numbers();
     stated_scratch_length();
+    encrypted_frame();
     cleared_buffer();
     return wrong;
 }
