@@ -29,7 +29,8 @@ int main(void) {
     uint8_t share1[16], share2[16], share3[16], ciphertext[16];
     if (!draw(key2, 16) || !draw(key3, 16) || !draw(random, sizeof random)) return 1;
     for (int place = 0; place < 16; place++) key1[place] = key[place] ^ key2[place] ^ key3[place];
-    uint32_t refusal = cippazhey_encrypt_frame(plaintext, key1, key2, key3, random, sizeof random, scratch, sizeof scratch, share1, share2, share3);
+    uint32_t refusal =
+        cippazhey_encrypt_frame(plaintext, key1, key2, key3, random, sizeof random, scratch, sizeof scratch, share1, share2, share3);
     cippazhey_clear(random, sizeof random);
     if (refusal != CIPPAZHEY_ACCEPTED) return 1;
     for (int place = 0; place < 16; place++) ciphertext[place] = share1[place] ^ share2[place] ^ share3[place];

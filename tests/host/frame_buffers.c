@@ -23,7 +23,7 @@ static uint8_t *lend(size_t length, int protection) {
 
 // Long buffers. Scratch is looked at in its first and last bytes; between them it is not touched.
 
-static const size_t cut_to_32_bits = (size_t)1 << 32;
+#define BEYOND_32_BITS ((size_t)1 << 32)
 enum { WATCHED = 70000 };
 
 // Whether a frame with long buffers does what one with its first bytes would do, and leaves the rest.
@@ -48,17 +48,18 @@ static bool long_frame(uint8_t *random, size_t random_length, uint8_t *scratch, 
 }
 
 void long_buffers(void) {
-    const size_t random_lengths[] = {RANDOM_LENGTH, 256 + RANDOM_LENGTH, 65536 + RANDOM_LENGTH, cut_to_32_bits, cut_to_32_bits + RANDOM_LENGTH};
-    const size_t scratch_lengths[] = {255, 256, 511, 512, 65536, 65536 + 255, cut_to_32_bits, cut_to_32_bits + 255};
-    uint8_t *random = lend(cut_to_32_bits + 65536, PROT_READ | PROT_WRITE), *scratch = lend(cut_to_32_bits + 65536, PROT_READ | PROT_WRITE);
+    const size_t random_lengths[] = {632, 256 + 632, 65536 + 632, BEYOND_32_BITS, BEYOND_32_BITS + 632};
+    const size_t scratch_lengths[] = {255, 256, 511, 512, 65536, 65536 + 255, BEYOND_32_BITS, BEYOND_32_BITS + 255};
+    uint8_t *random = lend(BEYOND_32_BITS + 632, PROT_READ | PROT_WRITE);
+    uint8_t *scratch = lend(BEYOND_32_BITS + 255, PROT_READ | PROT_WRITE);
     for (int each = 0; each < 5; each++) {
         for (int other = 0; other < 8; other++) {
             uint32_t refusal = each > 0 ? 26 : other > 0 ? 0 : 13;
             record(long_frame(random, random_lengths[each], scratch, scratch_lengths[other], refusal), "frame in long buffers");
         }
     }
-    munmap(random, cut_to_32_bits + 65536);
-    munmap(scratch, cut_to_32_bits + 65536);
+    munmap(random, BEYOND_32_BITS + 632);
+    munmap(scratch, BEYOND_32_BITS + 255);
 }
 
 // Pages without neighbours.

@@ -11,5 +11,7 @@ struct frame_case {
 
 extern const struct frame_case frame_cases[];
 extern const size_t frame_case_count;
+// r' of each lookup of the last frame, of which no two have the same r3.
+extern const uint8_t last_r_primes[200];
 
 #endif

@@ -4,9 +4,9 @@
 #include "aes.h"
 #include "cippazhey.h"
 #include "frame_buffers.h"
-#include "frame_cases.h"
 #include "frame_reference.h"
 #include "frame_trial.h"
+#include "frame_watch.h"
 
 #include <string.h>
 
@@ -68,10 +68,7 @@ static void fips_197(void) {
 // The model's frames.
 
 static void stored_frame(frame_call *call, const struct frame_case *stored, const char *what) {
-    struct frame_trial trial = accepted_frame();
-    memcpy(trial.plaintext, stored->plaintext, BLOCK);
-    memcpy(trial.key, stored->key, sizeof trial.key);
-    memcpy(trial.random, stored->random, RANDOM_LENGTH);
+    struct frame_trial trial = stored_trial(stored);
     bool accepted = make_frame(call, &trial) == CIPPAZHEY_ACCEPTED;
     record(accepted && memcmp(trial.share, stored->share, sizeof trial.share) == 0, what);
 }
@@ -166,6 +163,7 @@ static const struct group groups[] = {
     {"in_a_row", in_a_row, 10},
     {"long_buffers", long_buffers, 40},
     {"ends_of_pages", ends_of_pages, 84},
+    {"watched_scratch", watched_scratch, 603},
     {"random_frames", random_frames, RANDOM_FRAMES},
 };
 

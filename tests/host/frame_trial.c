@@ -25,6 +25,14 @@ struct frame_trial accepted_frame(void) {
     return trial;
 }
 
+struct frame_trial stored_trial(const struct frame_case *stored) {
+    struct frame_trial trial = accepted_frame();
+    memcpy(trial.plaintext, stored->plaintext, BLOCK);
+    memcpy(trial.key, stored->key, sizeof trial.key);
+    memcpy(trial.random, stored->random, RANDOM_LENGTH);
+    return trial;
+}
+
 static void join(const uint8_t *share1, const uint8_t *share2, const uint8_t *share3, uint8_t joined[BLOCK]) {
     for (int place = 0; place < BLOCK; place++) {
         joined[place] = share1[place] ^ share2[place] ^ share3[place];
@@ -88,7 +96,7 @@ static void lay_out(const struct frame_trial *trial, uint8_t room[ROOM], struct 
 
 // What an accepted frame must leave in a copy of the room: zeros in the first bytes of scratch, the shares that the reference finds, and all
 // else as it was.
-static void complete(const struct frame_trial *reference, const uint8_t room[ROOM], const struct buffer lent[BUFFERS], uint8_t copy[ROOM]) {
+static void complete(const struct frame_trial *reference, const uint8_t *room, const struct buffer *lent, uint8_t copy[ROOM]) {
     memset(copy + (lent[SCRATCH].bytes - room), 0, SCRATCH_LENGTH);
     for (int share = 0; share < 3; share++) {
         memcpy(copy + (lent[SHARE1 + share].bytes - room), reference->share[share], BLOCK);

@@ -2,6 +2,7 @@
 #ifndef FRAME_TRIAL_H
 #define FRAME_TRIAL_H
 
+#include "frame_cases.h"
 #include "groups.h"
 #include "numbers.h"
 
@@ -28,6 +29,9 @@ void fill_random(uint8_t *bytes, size_t length);
 
 // A frame that is accepted: all that is lent looks random, scratch and the results too. Scratch just suffices.
 struct frame_trial accepted_frame(void);
+
+// A frame that the model has made.
+struct frame_trial stored_trial(const struct frame_case *stored);
 
 // Sets the plaintext and the first key share, so that the key's shares join to a key.
 void set_plaintext_and_key(struct frame_trial *trial, const uint8_t plaintext[BLOCK], const uint8_t key[BLOCK]);

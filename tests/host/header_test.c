@@ -1,6 +1,6 @@
-// The header against the archive, in C and in C++: the calls' types, each number of the enum, both lengths, the names of the parameters, and
-// the helpers. Prints a line for each that is wrong; exits with 1 if one is. Compile it with CALL_BY_NAME, FRAME_BY_NAME and CLEAR_BY_NAME,
-// calls whose arguments are the names of the parameters in the header's order.
+// The header against the archive, in C and in C++: the calls' types, each number of the enum, both lengths, the names of the parameters,
+// and the helpers. Prints a line for each that is wrong; exits with 1 if one is. Compile it with CALL_BY_NAME, FRAME_BY_NAME and
+// CLEAR_BY_NAME, calls whose arguments are the names of the parameters in the header's order.
 #include "cippazhey.h"
 #include "cippazhey.h" // twice, for its guard
 
@@ -129,7 +129,8 @@ static uint32_t frame_by_name(uint8_t blocks[FRAME_BLOCKS][16], const uint8_t *r
 // FIPS 197, appendix C.1, with shares that all differ: by name and by place the frame must have the same results.
 static void encrypted_frame(void) {
     static const uint8_t ciphertext[] = {0x69, 0xc4, 0xe0, 0xd8, 0x6a, 0x7b, 0x04, 0x30, 0xd8, 0xcd, 0xb7, 0x80, 0x70, 0xb4, 0xc5, 0x5a};
-    static uint8_t random[CIPPAZHEY_RANDOM_LENGTH + 1], scratch[CIPPAZHEY_SCRATCH_LENGTH], named[FRAME_BLOCKS][16], placed[FRAME_BLOCKS][16];
+    static uint8_t random[CIPPAZHEY_RANDOM_LENGTH + 1], scratch[CIPPAZHEY_SCRATCH_LENGTH];
+    static uint8_t named[FRAME_BLOCKS][16], placed[FRAME_BLOCKS][16];
     const size_t random_length = CIPPAZHEY_RANDOM_LENGTH, scratch_length = CIPPAZHEY_SCRATCH_LENGTH;
     for (int place = 0; place < 16; place++) {
         named[0][place] = (uint8_t)(17 * place);
@@ -148,9 +149,11 @@ static void encrypted_frame(void) {
     for (int block = 0; block < FRAME_BLOCKS; block++) {
         hold(memcmp(named[block], placed[block], 16) == 0, "block of a frame by name", block);
     }
-    hold(frame_by_name(named, random, random_length - 1, scratch_length) == CIPPAZHEY_REFUSED_RANDOM_LENGTH, "one random byte less", 0);
-    hold(frame_by_name(named, random, random_length + 1, scratch_length) == CIPPAZHEY_REFUSED_RANDOM_LENGTH, "one random byte more", 0);
-    hold(frame_by_name(named, random, random_length, scratch_length - 1) == CIPPAZHEY_REFUSED_SCRATCH_LENGTH, "one byte of scratch less", 0);
+    uint32_t fewer = frame_by_name(named, random, random_length - 1, scratch_length);
+    uint32_t more = frame_by_name(named, random, random_length + 1, scratch_length);
+    uint32_t shorter = frame_by_name(named, random, random_length, scratch_length - 1);
+    hold(fewer == CIPPAZHEY_REFUSED_RANDOM_LENGTH && more == fewer, "refusal of other random lengths", (int)fewer);
+    hold(shorter == CIPPAZHEY_REFUSED_SCRATCH_LENGTH, "refusal of shorter scratch", (int)shorter);
 }
 
 static void cleared_buffer(void) {

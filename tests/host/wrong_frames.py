@@ -1,7 +1,7 @@
 # The control of tests/host/frame_test.c: wrong frames, each of which the group named beside it must notice. A wrong frame is the reference
 # with an edit, exported in the place of the archive's call. In a common fault the reference that it is compared with has the edit too, and
-# FIPS 197's figures, the model's shares or what a frame must leave have to notice it. Run: python3 tests/host/wrong_frames.py (status 0 if the
-# unedited reference passes whole and every wrong frame is noticed, 1 otherwise, with a line for each that is not).
+# FIPS 197's figures, the model's shares or what a frame must leave have to notice it. Run: python3 tests/host/wrong_frames.py (status 0 if
+# the unedited reference passes whole and every wrong frame is noticed, 1 otherwise, with a line for each that is not).
 import signal
 import subprocess
 import sys
@@ -17,7 +17,7 @@ from edits import edited
 # Fewer random frames than the test has are enough here.
 COMPILE = ["cc", "-std=c99", "-O1", f"-I{HOST}", f"-I{HOST.parents[1] / 'include'}", "-DRANDOM_FRAMES=300"]
 # The test, and the other calls of the archive, which it makes too.
-TEST = ("frame_test", "frame_buffers", "frame_trial", "numbers", "groups", "aes", "wrong_call", "reference")
+TEST = ("frame_test", "frame_buffers", "frame_trial", "frame_watch", "numbers", "groups", "aes", "wrong_call", "reference")
 EXPORTED = "-Dreference_encrypt_frame=cippazhey_encrypt_frame"
 
 # The reference's lines that the edits put something before.
@@ -30,8 +30,10 @@ RESULT = "        share1[place] = state[place][0];\n"
 MASKS = "lent.random + 32 + 3 * (20 * (round - 1) + j)"
 NAMED_MASKS = "s1 = masks[0], s2 = masks[1], r3 = masks[2]"
 CONSTANT = "word[0][0] ^= round_constant(round);"
+PLAINTEXT_MASKS = "r1 = random[place], r2 = random[16 + place]"
 KEY_SHARES = "{key1[place], key2[place], key3[place]}"
 CLEAR = "memset(lent.scratch, 0, SCRATCH_LENGTH);"
+CLEAR_BEFORE = "    clear(lent);\n    for (int a = 0; a < 256; a++) {\n"
 LAST_CLEAR = "        add_round_key(state, words, round);\n    }\n    clear(lent);\n"
 
 
@@ -70,12 +72,12 @@ OTHER_SHARES = {
     "r3 before s1 and s2": (NAMED_MASKS, "s1 = masks[1], s2 = masks[2], r3 = masks[0]"),
     "s2 left out": (NAMED_MASKS, "s1 = masks[0], s2 = 0, r3 = masks[2]"),
     "s1 for s2 too": (NAMED_MASKS, "s1 = masks[0], s2 = s1, r3 = masks[2]"),
-    "no masks in the last lookup": (NAMED_MASKS, NAMED_MASKS.replace("masks[1]", "round == 10 && j == 19 ? 0 : masks[1]")),
+    "no s2 in the last lookup": (NAMED_MASKS, NAMED_MASKS.replace("masks[1]", "round == 10 && j == 19 ? 0 : masks[1]")),
     "the answer as second share": ("byte[0] = lent.scratch[r3];\n    byte[1] = s1;", "byte[1] = lent.scratch[r3];\n    byte[0] = s1;"),
     "key shares in another order": (KEY_SHARES, "{key2[place], key1[place], key3[place]}"),
     "key joined": (KEY_SHARES, "{key1[place] ^ key2[place] ^ key3[place], 0, 0}"),
     "results in another order": ("share2[place] = state[place][1];\n        share3", "share3[place] = state[place][1];\n        share2"),
-    "result joined": before(RESULT, "for (int each = 1; each < 3; each++) { state[place][0] ^= state[place][each]; state[place][each] = 0; }"),
+    "result joined": before(RESULT, "state[place][0] ^= state[place][1] ^ state[place][2];", "state[place][1] = state[place][2] = 0;"),
 }
 OTHER_CIPHERS = {
     "rows shifted the other way": ("(c + r) % 4", "(c + 4 - r) % 4"),
@@ -83,12 +85,12 @@ OTHER_CIPHERS = {
     "columns mixed in the last round": ("if (round < ROUNDS)", "if (round <= ROUNDS)"),
     "columns not mixed in round 9": ("if (round < ROUNDS)", "if (round < ROUNDS - 1)"),
     "columns mixed upside down": ("tripled(column[(r + 1) % 4][share])", "tripled(column[(r + 3) % 4][share])"),
-    "the third share not mixed": ("uint8_t(*column)[SHARES] = before + place - r;\n        for (int share = 0; share < SHARES", "uint8_t(*column)[SHARES] = before + place - r;\n        for (int share = 0; share < SHARES - 1"),
+    "the third share not mixed": ("state[place][share] = aes_doubled", "if (share < 2) state[place][share] = aes_doubled"),
     "key word not rotated": ("before[(j + 1) % 4]", "before[j]"),
     "key word rotated the other way": ("before[(j + 1) % 4]", "before[(j + 3) % 4]"),
     "round constants not reduced": ("aes_doubled(round_constant(round - 1))", "(uint8_t)(1 << (round - 1))"),
     "the first key not added": ("    add_round_key(state, words, 0);\n", ""),
-    "the last key not added": ("        add_round_key(state, words, round);\n", "        if (round < ROUNDS) { add_round_key(state, words, round); }\n"),
+    "the last key not added": ("add_round_key(state, words, round);", "if (round < ROUNDS) add_round_key(state, words, round);"),
     "nine rounds": ("round <= ROUNDS", "round < ROUNDS"),
     "plaintext row by row": ("(plaintext[place] ^ r1)", "(plaintext[place % 4 * 4 + place / 4] ^ r1)"),
     "all refused": (CHECK, "    uint32_t number = 26;\n"),
@@ -117,13 +119,15 @@ CONTENTS = {
     "dirty byte 255 refused": before(ENCRYPT, "if (scratch[255] != 0) { return 19; }"),
     "a byte of 77 refused": before(ENCRYPT, "if (scratch[9] == 77) { return 19; }"),
     "dirt in the result": before(ENCRYPT, "state[0][0] ^= scratch[200];"),
-    "scratch given back": (ENCRYPT, f"    uint8_t given[256];\n    memcpy(given, scratch, 256);\n{ENCRYPT}    memcpy(scratch, given, 256);\n"),
+    "scratch given back": (ENCRYPT, f"uint8_t given[256]; memcpy(given, scratch, 256);\n{ENCRYPT} memcpy(scratch, given, 256);\n"),
 }
 IN_A_ROW = {
-    "shares of the first frame kept": before(
-        RESULT, "static int times;", "static uint8_t kept[16];", "if (times++ < 16) { kept[place] = state[place][0]; }", "state[place][0] = kept[place];"
+    "the first frame's share kept": before(
+        RESULT, "static uint8_t kept[16], n;", "if (n < 16) { kept[place] = state[place][0]; n++; }", "state[place][0] = kept[place];"
     ),
-    "a frame after a refused one": before(REFUSED, "static uint32_t last;", "if (last == 26 && number == 0) { last = 0; return 26; }", "last = number;"),
+    "a frame after a refused one": before(
+        REFUSED, "static uint32_t last;", "if (last == 26 && number == 0) { last = 0; return 26; }", "last = number;"
+    ),
 }
 LONG_BUFFERS = {
     f"{name} cut to {bits} bits": before(CHECK, f"{name} &= {hex(2**bits - 1)}u;")
@@ -145,6 +149,14 @@ ENDS_OF_PAGES = {
     "a result written back on refusal": writes_back(REFUSED, "share3[15]"),
     "scratch written back on refusal": before(REFUSED, "if (scratch_length > 0) { *(volatile uint8_t *)scratch = scratch[0]; }"),
 }
+# What no result shows. To watch takes a second.
+WATCHED = {
+    "scratch not cleared before a lookup": (CLEAR_BEFORE, CLEAR_BEFORE.replace("    clear(lent);\n", "")),
+    "the r3 of the lookup before": (NAMED_MASKS, NAMED_MASKS.replace("masks[2]", "masks[-1]")),
+    "no r3 in one lookup": (NAMED_MASKS, NAMED_MASKS.replace("masks[2]", "round == 10 && j == 19 ? 0 : masks[2]")),
+    "plaintext not masked": (PLAINTEXT_MASKS, "r1 = 0, r2 = 0"),
+    "plaintext's masks in turns": (PLAINTEXT_MASKS, "r1 = random[2 * place], r2 = random[2 * place + 1]"),
+}
 RANDOM_FRAMES = {
     **{name: OTHER_SHARES[name] for name in ("round constant on the second share", "s1 and s2 exchanged", "results in another order")},
     "one plaintext in sixteen": before(ENCRYPT, "state[5][1] ^= plaintext[3] % 16 == 7;"),
@@ -163,11 +175,12 @@ WRONG_FRAMES = {
     "in_a_row": IN_A_ROW,
     "long_buffers": LONG_BUFFERS,
     "ends_of_pages": ENDS_OF_PAGES,
+    "watched_scratch": WATCHED,
     "random_frames": RANDOM_FRAMES,
 }
 COMMON_FAULTS = {
     "stored_frames": OTHER_SHARES,
-    "fips_197": {name: OTHER_CIPHERS[name] for name in ("rows shifted the other way", "columns mixed in the last round", "key word not rotated")},
+    "fips_197": {name: OTHER_CIPHERS[name] for name in ("rows shifted the other way", "columns mixed in the last round")},
     "refusals": {name: REFUSALS[name] for name in ("13 before 26", "results written on refusal", "scratch cleared on refusal")},
     "contents_of_scratch": {name: CONTENTS[name] for name in ("scratch not cleared after the last lookup", "tail cleared too")},
     "random_frames": {name: OTHER_CIPHERS[name] for name in ("rows shifted the other way", "round constants not reduced")},
@@ -179,7 +192,7 @@ def build(*words):
 
 
 def build_objects(folder):
-    (folder / "frame_cases.c").write_text(frame_cases.in_c(frame_cases.frames()))
+    (folder / "frame_cases.c").write_text(frame_cases.in_c())
     build("-c", folder / "frame_cases.c", "-o", folder / "frame_cases.o")
     for name in (*TEST, "frame_reference"):
         build("-c", HOST / f"{name}.c", "-o", folder / f"{name}.o")

@@ -1,5 +1,5 @@
-# The edits of tests/model/frame.py that tests/model/mutants.py tries: for each function a piece of its text, and what takes its place. Where
-# what the shares join to stays the same, only the shares themselves tell.
+# The edits of tests/model/frame.py that tests/model/mutants.py tries: for each function a piece of its text, and what takes its place.
+# Where what the shares join to stays the same, only the shares themselves tell.
 FRAME = {
     "added": [("^", "|"), ("^", "&")],
     "shift_rows": [

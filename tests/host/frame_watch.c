@@ -1,0 +1,162 @@
+// A frame's scratch, watched while the frame runs: a group of frame_test.c. Scratch stands in a page that may not be touched. Each access
+// raises a signal, whose handler looks at the scratch and lets that one instruction through.
+#define _GNU_SOURCE // for the registers that a signal handler is given
+#include "frame_watch.h"
+
+#include "aes.h"
+#include "cippazhey.h"
+#include "frame_trial.h"
+
+#include <signal.h>
+#include <stdlib.h>
+#include <string.h>
+#include <sys/mman.h>
+#include <ucontext.h>
+#include <unistd.h>
+
+enum { LOOKUPS = 200, ENTRIES = 256, TRAP_FLAG = 0x100, ACCESS_WRITES = 2 };
+
+// A lookup as the scratch shows it, when its answer is read: the last writes, one for each entry, and what stands there.
+struct seen {
+    unsigned times;
+    bool clean_before;
+    uint8_t places[ENTRIES], entries[ENTRIES];
+};
+
+// By the place that the answer is read from, r3. In the watched frame no two lookups have the same.
+static struct seen lookups[ENTRIES];
+static unsigned answers, beside;
+// The last writes, from the oldest on, and whether scratch was zero before each.
+static struct {
+    uint8_t place;
+    bool clean;
+} writes[ENTRIES];
+static unsigned next_write;
+static uint8_t *scratch;
+static size_t page_length;
+
+static bool all_zero(void) {
+    static const uint8_t zeros[ENTRIES];
+    return memcmp(scratch, zeros, ENTRIES) == 0;
+}
+
+static void note_write(uint8_t place) {
+    writes[next_write % ENTRIES].place = place;
+    writes[next_write % ENTRIES].clean = all_zero();
+    next_write++;
+}
+
+// To read zeros where all is zero tells nothing.
+static void note_read(uint8_t place) {
+    if (all_zero()) {
+        return;
+    }
+    struct seen *lookup = &lookups[place];
+    lookup->times++;
+    lookup->clean_before = writes[next_write % ENTRIES].clean;
+    for (unsigned each = 0; each < ENTRIES; each++) {
+        lookup->places[each] = writes[(next_write + each) % ENTRIES].place;
+    }
+    memcpy(lookup->entries, scratch, ENTRIES);
+    answers++;
+}
+
+// An access elsewhere is an error of its own, and ends the program once the system meets it again.
+static void on_access(int number, siginfo_t *info, void *context) {
+    greg_t *registers = ((ucontext_t *)context)->uc_mcontext.gregs;
+    size_t place = (size_t)((uint8_t *)info->si_addr - scratch);
+    if (place >= page_length) {
+        signal(number, SIG_DFL);
+        return;
+    }
+    mprotect(scratch, page_length, PROT_READ | PROT_WRITE);
+    if (place >= ENTRIES) {
+        beside++;
+    } else if (registers[REG_ERR] & ACCESS_WRITES) {
+        note_write((uint8_t)place);
+    } else {
+        note_read((uint8_t)place);
+    }
+    registers[REG_EFL] |= TRAP_FLAG;
+}
+
+static void on_step(int number, siginfo_t *info, void *context) {
+    (void)number, (void)info;
+    mprotect(scratch, page_length, PROT_NONE);
+    ((ucontext_t *)context)->uc_mcontext.gregs[REG_EFL] &= ~(greg_t)TRAP_FLAG;
+}
+
+static void handle(int number, void (*handler)(int, siginfo_t *, void *), struct sigaction *before) {
+    struct sigaction action = {0};
+    action.sa_sigaction = handler;
+    action.sa_flags = SA_SIGINFO;
+    sigaction(number, &action, before);
+}
+
+// Encrypts a frame on watched scratch.
+static uint32_t watch(frame_call *call, struct frame_trial *trial) {
+    struct sigaction access_before, step_before;
+    struct buffer lent[BUFFERS];
+    list_buffers(trial, lent);
+    lent[SCRATCH].bytes = scratch;
+    memset(lookups, 0, sizeof lookups);
+    answers = beside = next_write = 0;
+    memset(scratch, 0xff, ENTRIES);
+    handle(SIGSEGV, on_access, &access_before);
+    handle(SIGTRAP, on_step, &step_before);
+    mprotect(scratch, page_length, PROT_NONE);
+    uint32_t refusal = call_with(call, lent);
+    mprotect(scratch, page_length, PROT_READ | PROT_WRITE);
+    sigaction(SIGSEGV, &access_before, NULL);
+    sigaction(SIGTRAP, &step_before, NULL);
+    return refusal;
+}
+
+// Whether a lookup filled scratch in the order of method 2: entry a at a ^ r'.
+static bool in_order(const struct seen *lookup, uint8_t r_prime) {
+    for (unsigned a = 0; a < ENTRIES; a++) {
+        if (lookup->places[a] != (a ^ r_prime)) {
+            return false;
+        }
+    }
+    return true;
+}
+
+// Whether its entries are the S-box under s1 and s2, shifted by its secret and r3. The secret is the one whose entry the answer is.
+static bool masked(const struct seen *lookup, const uint8_t masks[3]) {
+    uint8_t r3 = masks[2], output = lookup->entries[r3] ^ masks[0] ^ masks[1];
+    unsigned secret = 0;
+    while (aes_sbox[secret] != output) {
+        secret++;
+    }
+    for (unsigned place = 0; place < ENTRIES; place++) {
+        if (lookup->entries[place] != (aes_sbox[secret ^ r3 ^ place] ^ masks[0] ^ masks[1])) {
+            return false;
+        }
+    }
+    return true;
+}
+
+static void lend_scratch(void) {
+    page_length = (size_t)sysconf(_SC_PAGESIZE);
+    scratch = mmap(NULL, page_length, PROT_READ | PROT_WRITE, MAP_PRIVATE | MAP_ANONYMOUS, -1, 0);
+    if (scratch == MAP_FAILED) {
+        record(false, "the system lends no memory");
+        exit(1);
+    }
+}
+
+void watched_scratch(void) {
+    struct frame_trial trial = stored_trial(&frame_cases[frame_case_count - 1]);
+    lend_scratch();
+    record(watch(cippazhey_encrypt_frame, &trial) == CIPPAZHEY_ACCEPTED, "watched frame");
+    record(answers == LOOKUPS && beside == 0, "number of lookups, and nothing beside them");
+    record(all_zero(), "watched scratch after the last lookup");
+    for (unsigned each = 0; each < LOOKUPS; each++) {
+        const uint8_t *masks = trial.random + 32 + 3 * each;
+        const struct seen *lookup = &lookups[masks[2]];
+        record(lookup->times == 1 && lookup->clean_before, "one lookup for each r3, on cleared scratch");
+        record(in_order(lookup, last_r_primes[each]), "entries in the order of method 2");
+        record(masked(lookup, masks), "entries under their masks");
+    }
+}
