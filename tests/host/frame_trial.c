@@ -94,8 +94,8 @@ static void lay_out(const struct frame_trial *trial, uint8_t room[ROOM], struct 
     }
 }
 
-// What an accepted frame must leave in a copy of the room: zeros in the first bytes of scratch, the shares that the reference finds, and all
-// else as it was.
+// What an accepted frame must leave, in a copy of the room: zeros in the first bytes of scratch, the shares that the reference finds, and
+// all else as it was.
 static void complete(const struct frame_trial *reference, const uint8_t *room, const struct buffer *lent, uint8_t copy[ROOM]) {
     memset(copy + (lent[SCRATCH].bytes - room), 0, SCRATCH_LENGTH);
     for (int share = 0; share < 3; share++) {
