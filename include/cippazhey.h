@@ -76,7 +76,8 @@ uint16_t cippazhey_plain_call(uint32_t method, uint32_t n, uint32_t m, uint32_t 
                               uint8_t *scratch, size_t scratch_length);
 
 // Encrypts one block by AES-128 (FIPS 197) with key and state in three shares; the plaintext comes unshared. Accepted, the
-// shares that it writes join to the ciphertext: share1 ^ share2 ^ share3. Blocks have FIPS 197's order of bytes.
+// shares that it writes join to the ciphertext: share1 ^ share2 ^ share3. Blocks have FIPS 197's order: byte r + 4c is row r
+// of column c.
 //
 //   plaintext           16 bytes; only read
 //   key1, key2, key3    the three shares of the key, which is key1 ^ key2 ^ key3, 16 bytes each; only read. Round constants
@@ -86,8 +87,8 @@ uint16_t cippazhey_plain_call(uint32_t method, uint32_t n, uint32_t m, uint32_t 
 //                       four bytes of the rotated key word come before the sixteen of the state.
 //   scratch             at least 256 bytes, whatever they hold: the first 256 are cleared before each lookup and after the
 //                       last, and are zero afterwards. What stands behind them stays.
-//   share1 .. share3    16 bytes each. share1 comes of the lookups' answers and key1, share2 of each s1 and key2, share3 of
-//                       each s2 and key3.
+//   share1 .. share3    16 bytes each. share1 is made of the lookups' answers and key1, share2 of the masks s1 and key2,
+//                       share3 of the masks s2 and key3.
 //
 // What the caller owes:
 //   - Each pointer points to 16 bytes, or to as many as its length says. NULL is allowed only with length 0.

@@ -11,9 +11,16 @@
 #include <sys/mman.h>
 #include <unistd.h>
 
-// Memory that takes room only where it is touched.
-static uint8_t *lend(size_t length, int protection) {
-    void *lent = mmap(NULL, length, protection, MAP_PRIVATE | MAP_ANONYMOUS | MAP_NORESERVE, -1, 0);
+static void protect(uint8_t *pages, size_t length, int protection) {
+    if (mprotect(pages, length, protection) != 0) {
+        record(false, "the system does not protect memory");
+        exit(1);
+    }
+}
+
+// Memory that can't be touched before it is allowed to.
+static uint8_t *lend(size_t length) {
+    void *lent = mmap(NULL, length, PROT_NONE, MAP_PRIVATE | MAP_ANONYMOUS | MAP_NORESERVE, -1, 0);
     if (lent == MAP_FAILED) {
         record(false, "the system lends no memory");
         exit(1);
@@ -21,10 +28,18 @@ static uint8_t *lend(size_t length, int protection) {
     return lent;
 }
 
-// Long buffers. Scratch is looked at in its first and last bytes; between them it is not touched.
+// Long buffers.
 
 #define BEYOND_32_BITS ((size_t)1 << 32)
-enum { WATCHED = 70000 };
+enum { NEAR = 131072, WATCHED = 70000 };
+
+// Only the first bytes and those around the end can be touched.
+static uint8_t *lend_long_buffer(void) {
+    uint8_t *lent = lend(BEYOND_32_BITS + NEAR);
+    protect(lent, NEAR, PROT_READ | PROT_WRITE);
+    protect(lent + BEYOND_32_BITS - NEAR, 2 * NEAR, PROT_READ | PROT_WRITE);
+    return lent;
+}
 
 // Whether a frame with long buffers does what one with its first bytes would do, and leaves the rest.
 static bool long_frame(uint8_t *random, size_t random_length, uint8_t *scratch, size_t scratch_length, uint32_t refusal) {
@@ -50,16 +65,15 @@ static bool long_frame(uint8_t *random, size_t random_length, uint8_t *scratch, 
 void long_buffers(void) {
     const size_t random_lengths[] = {632, 256 + 632, 65536 + 632, BEYOND_32_BITS, BEYOND_32_BITS + 632};
     const size_t scratch_lengths[] = {255, 256, 511, 512, 65536, 65536 + 255, BEYOND_32_BITS, BEYOND_32_BITS + 255};
-    uint8_t *random = lend(BEYOND_32_BITS + 632, PROT_READ | PROT_WRITE);
-    uint8_t *scratch = lend(BEYOND_32_BITS + 255, PROT_READ | PROT_WRITE);
+    uint8_t *random = lend_long_buffer(), *scratch = lend_long_buffer();
     for (int each = 0; each < 5; each++) {
         for (int other = 0; other < 8; other++) {
             uint32_t refusal = each > 0 ? 26 : other > 0 ? 0 : 13;
             record(long_frame(random, random_lengths[each], scratch, scratch_lengths[other], refusal), "frame in long buffers");
         }
     }
-    munmap(random, BEYOND_32_BITS + 632);
-    munmap(scratch, BEYOND_32_BITS + 255);
+    munmap(random, BEYOND_32_BITS + NEAR);
+    munmap(scratch, BEYOND_32_BITS + NEAR);
 }
 
 // Pages without neighbours.
@@ -69,13 +83,6 @@ enum { RUNS = 12 };
 // Where a buffer stands in its page: at the end, or at the beginning.
 static uint8_t *place_in(uint8_t *page, size_t page_length, size_t length, bool at_end) {
     return at_end ? page + page_length - length : page;
-}
-
-static void protect(uint8_t *page, size_t page_length, int protection) {
-    if (mprotect(page, page_length, protection) != 0) {
-        record(false, "the system does not protect a page");
-        exit(1);
-    }
 }
 
 // Whether a frame comes out right whose buffers each fill one end of a page.
@@ -105,7 +112,7 @@ void ends_of_pages(void) {
     size_t page_length = (size_t)sysconf(_SC_PAGESIZE);
     uint8_t *pages[BUFFERS];
     for (int each = 0; each < BUFFERS; each++) {
-        pages[each] = lend(3 * page_length, PROT_NONE) + page_length;
+        pages[each] = lend(3 * page_length) + page_length;
     }
     for (int each = 0; each < 7; each++) {
         for (int run = 0; run < RUNS; run++) {
