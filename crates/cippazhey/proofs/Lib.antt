@@ -1,2 +1,3 @@
--- The laws of the exported number.
+-- The laws of the exported number and of a frame's shares.
 pub mod Exported
+pub mod Framed

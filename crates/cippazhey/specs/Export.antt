@@ -1,6 +1,17 @@
--- The one 16-bit number that the C host gets: refusal × 256 + share.
+-- What the C host gets: of the plain call one 16-bit number, refusal × 256 + share, and of a frame its three shares.
+use mathlib.Core.List.{List, [], _∷_}
 use Prim.Native.Nat.{ℕ, _+_, _*_}
+use Rattle.refusals.specs.Left.{left}
 use Rattle.lookup.specs.declared.Called.{Called}
+use Rattle.aes.specs.State.{State}
+use Rattle.frame.specs.Shares.{share}
+use Rattle.frame.specs.Rounds.{frame-shares}
+use Rattle.frame.specs.Frame.{frame-refusal, flat}
 
 unfoldable pub exported : Called → ℕ
 exported r = r .refusal * 256 + r .share
+
+-- one of a frame's shares where nothing is refused, else what the lent place held
+unfoldable pub exported-share : (number : ℕ) → (plaintext key1 key2 key3 : State) → (random scratch : List ℕ) → (old : List ℕ) → List ℕ
+exported-share number p k1 k2 k3 random scratch old =
+    left (frame-refusal random scratch) (flat (share (frame-shares random p (k1 ∷ k2 ∷ k3 ∷ [])) number)) old

@@ -1,8 +1,10 @@
-// What C links: the plain call as one 16-bit number, refusal × 256 + share, and the clearing of a buffer. include/cippazhey.h declares both.
+// What C links: the plain call as one 16-bit number, refusal × 256 + share, the clearing of a buffer, and a frame of AES-128.
+// include/cippazhey.h declares all three.
 ghost use mathlib.Core.Path.{_≡_};
 ghost use lib.ListN.{length, replicate};
 ghost use Rattle.calls.specs.Reply.{case-from, plain-reply, plain-scratch};
-ghost use Rattle.cippazhey.specs.Export.{exported};
+ghost use Rattle.frame.specs.Frame.{frame-refusal, frame-scratch};
+ghost use Rattle.cippazhey.specs.Export.{exported, exported-share};
 
 #[no_mangle]
 pub extern "C" fn cippazhey_plain_call(
@@ -32,4 +34,38 @@ pub extern "C" fn cippazhey_clear(buffer: &mut [u8])
     ensures { λ _. ⌜ now (buffer .exit) ≡ replicate (length (now (buffer .entry))) 0 ⌝ }
 {
     buffers::clear(buffer);
+}
+
+#[no_mangle]
+pub extern "C" fn cippazhey_encrypt_frame(
+    plaintext: &[[u8; 4]; 4],
+    key1: &[[u8; 4]; 4],
+    key2: &[[u8; 4]; 4],
+    key3: &[[u8; 4]; 4],
+    random: &[u8],
+    scratch: &mut [u8],
+    share1: &mut [u8; 16],
+    share2: &mut [u8; 16],
+    share3: &mut [u8; 16],
+) -> u32
+    ensures { λ r. ⌜ r ≡ frame-refusal (now (random .entry)) (now (scratch .entry)) ⌝ }
+    ensures { λ _. ⌜ now (scratch .exit) ≡ frame-scratch (now (random .entry)) (now (scratch .entry)) ⌝ }
+    ensures { λ _. ⌜ now (share1 .exit) ≡ exported-share 0 (now (plaintext .entry)) (now (key1 .entry)) (now (key2 .entry)) (now (key3 .entry))
+        (now (random .entry)) (now (scratch .entry)) (now (share1 .entry)) ⌝ }
+    ensures { λ _. ⌜ now (share2 .exit) ≡ exported-share 1 (now (plaintext .entry)) (now (key1 .entry)) (now (key2 .entry)) (now (key3 .entry))
+        (now (random .entry)) (now (scratch .entry)) (now (share2 .entry)) ⌝ }
+    ensures { λ _. ⌜ now (share3 .exit) ≡ exported-share 2 (now (plaintext .entry)) (now (key1 .entry)) (now (key2 .entry)) (now (key3 .entry))
+        (now (random .entry)) (now (scratch .entry)) (now (share3 .entry)) ⌝ }
+{
+    let encrypted = frame::encrypt_frame(*plaintext, *key1, *key2, *key3, random, scratch);
+    if encrypted.refusal != 0 {
+        return encrypted.refusal;
+    }
+    let first = encrypted.share1;
+    *share1 = first;
+    let second = encrypted.share2;
+    *share2 = second;
+    let third = encrypted.share3;
+    *share3 = third;
+    0
 }
