@@ -1,5 +1,5 @@
 -- What is promised of the definitions holds.
-use mathlib.Core.Path.{_≡_, refl}
+use mathlib.Core.Path.{refl}
 use Rattle.bits.specs.Xor.{_⊕_}
 use Rattle.table.specs.Balanced.{at}
 use Rattle.sbox.specs.Tabulate.{tabulate}

@@ -2,11 +2,10 @@
 use mathlib.Core.Path.{_≡_}
 use mathlib.Core.List.{[]}
 use Prim.Native.Nat.{ℕ, zero, suc, _<_}
-use native.Mathlib.Omega.{arith}
 use lib.Dec.{lit<}
 use lib.ListN.{getD}
 use Rattle.table.specs.Balanced.{at}
-use Rattle.aes.specs.State.{Word, State, four, column, byte, state-of}
+use Rattle.aes.specs.State.{Word, four, column, byte, state-of}
 
 pub four-equal : {A : Type 0} (f g : ℕ → A) → ((i : ℕ) → f i ≡ g i) → four f ≡ four g
 unfolding four

@@ -1,5 +1,5 @@
 -- The key expansion for a key of four words, FIPS 197, section 5.2: round key i is w[4i], w[4i+1], w[4i+2], w[4i+3].
-use mathlib.Core.List.{List, [], _∷_}
+use mathlib.Core.List.{[], _∷_}
 use Prim.Native.Nat.{ℕ, zero, suc, _+_, _/_, _%_}
 use Rattle.table.specs.Balanced.{at}
 use Rattle.sbox.specs.Field.{xtime}

@@ -1,6 +1,5 @@
 -- Shares are bytes, and every step makes bytes of bytes.
-use mathlib.Core.Path.{_≡_, refl}
-use mathlib.Core.Bool.{true}
+use mathlib.Core.Path.{refl}
 use mathlib.Core.List.{List, [], _∷_}
 use Prim.Native.Nat.{ℕ, zero, suc, _+_, _*_, _%_, _<_}
 use borrow.Author.Tests.{ltb-true}

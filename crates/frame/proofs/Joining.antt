@@ -1,7 +1,7 @@
 -- Joining commutes with each step of a round: what a step does to three shares joins to what it does to the state.
-use mathlib.Core.Path.{_≡_, refl, sym, ap, _∙_}
-use mathlib.Core.List.{List, [], _∷_}
-use Prim.Native.Nat.{ℕ, zero, suc, _+_, _*_, _%_, _<_}
+use mathlib.Core.Path.{_≡_, refl, _∙_}
+use mathlib.Core.List.{List}
+use Prim.Native.Nat.{ℕ, _+_, _*_, _%_, _<_}
 use native.Mathlib.Omega.{arith}
 use Rattle.bits.specs.Xor.{_⊕_}
 use Rattle.bits.proofs.Xor.{xors, below}
@@ -11,13 +11,12 @@ use Rattle.sbox.specs.Sbox.{sbox}
 use Rattle.lookup.specs.Case.{Q}
 use Rattle.lookup.specs.Row.{masked}
 use Rattle.lookup.proofs.Second.{answer-2-is}
-use Rattle.aes.specs.State.{Word, State, four, column, byte, state-of, add-words}
+use Rattle.aes.specs.State.{State, four, column, byte, state-of, add-words}
 use Rattle.aes.specs.Steps.{sub-bytes, shift-rows, mixed-byte, mix-column, mix-columns, add-round-key}
-use Rattle.aes.specs.Expansion.{rot-word, sub-word, rcon, next-words, next-key}
 use Rattle.aes.proofs.Linear.{two-adds, three-adds}
-use Rattle.aes.proofs.States.{four-equal, equal-states}
+use Rattle.aes.proofs.States.{equal-states}
 use Rattle.frame.specs.Shares.{Shares, share, three, each-share, with-each-share, joined}
-use Rattle.frame.specs.Lookups.{position, case-2, answered, word-answers, word-masks, column-answers, state-answers, state-masks, sub-shares}
+use Rattle.frame.specs.Lookups.{case-2, answered, word-answers, word-masks, column-answers, state-answers, state-masks, sub-shares}
 use Rattle.frame.specs.Promises.{Bytes}
 
 -- the bytes of three shares, and what they join to at one place

@@ -1,5 +1,5 @@
 -- The round keys' shares join to the round keys.
-use mathlib.Core.Path.{_≡_, refl, ap, _∙_}
+use mathlib.Core.Path.{_≡_, ap, _∙_}
 use mathlib.Core.List.{List, [], _∷_}
 use Prim.Native.Nat.{ℕ, zero, suc, _+_, _*_, _%_, _<_}
 use native.Mathlib.Omega.{arith}
@@ -7,12 +7,12 @@ use Rattle.bits.specs.Xor.{_⊕_}
 use Rattle.bits.proofs.Xor.{xors}
 use Rattle.table.specs.Balanced.{at}
 use Rattle.sbox.specs.Sbox.{sbox}
-use Rattle.aes.specs.State.{Word, State, four, column, byte, state-of, add-words}
-use Rattle.aes.specs.Expansion.{rot-word, sub-word, rcon, next-words, next-key, round-key}
+use Rattle.aes.specs.State.{Word, four, column, byte, state-of, add-words}
+use Rattle.aes.specs.Expansion.{rot-word, sub-word, rcon, next-words, next-key}
 use Rattle.aes.proofs.States.{four-equal, equal-states}
 use Rattle.frame.specs.Shares.{Shares, share, joined}
 use Rattle.frame.specs.Lookups.{position, answered, word-answers, word-masks}
-use Rattle.frame.specs.Rounds.{last-word, next-key-shares, key-shares}
+use Rattle.frame.specs.Rounds.{last-word, next-key-shares}
 use Rattle.frame.specs.Promises.{Bytes}
 use Rattle.frame.proofs.Joining.{All-bytes, joint, answered-joins}
 

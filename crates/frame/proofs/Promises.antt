@@ -1,13 +1,13 @@
 -- What is promised of a frame holds.
-use mathlib.Core.Path.{_≡_, refl, sym, ap, _∙_}
+use mathlib.Core.Path.{_≡_, refl, ap, _∙_}
 use mathlib.Core.List.{List, [], _∷_}
 use Prim.Native.Nat.{ℕ}
-use lib.ListN.{take, drop, replicate, length-replicate}
+use lib.ListN.{drop, replicate, length-replicate}
 use lib.Seq.{take-at, drop-at}
 use Rattle.refusals.specs.Left.{left}
 use Rattle.table.specs.Balanced.{at}
 use Rattle.sbox.specs.Tabulate.{tabulate}
-use Rattle.aes.specs.State.{State, four, column, byte, state-of}
+use Rattle.aes.specs.State.{four, column, byte, state-of}
 use Rattle.frame.specs.Shares.{Shares, share, joined}
 use Rattle.frame.specs.Frame.{cleared, flat, encrypted, frame-reply, frame-scratch}
 use Rattle.frame.specs.Promises.{ciphertext, Frame-right, Scratch-cleared}

@@ -1,12 +1,11 @@
 -- What a frame hands back and leaves in the scratch, refused and accepted, from what its parts told.
-use mathlib.Core.Path.{_≡_, refl, _∙_}
+use mathlib.Core.Path.{_≡_, _∙_}
 use mathlib.Core.List.{List, [], _∷_}
 use Prim.Native.Nat.{ℕ}
 use lib.ListN.{getD, replicate}
 use Rattle.refusals.specs.Left.{left}
 use Rattle.refusals.proofs.Left.{left-refused, left-accepted}
 use Rattle.aes.specs.State.{State}
-use Rattle.frame.specs.declared.Encrypted.{Encrypted}
 use Rattle.frame.specs.Shares.{Shares, share}
 use Rattle.frame.specs.Rounds.{frame-shares}
 use Rattle.frame.specs.Frame.{frame-refusal, cleared, flat, encrypted, frame-reply, frame-scratch}

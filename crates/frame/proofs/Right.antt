@@ -1,5 +1,5 @@
 -- The shares of a frame join to what FIPS 197 makes: round by round, and the whole.
-use mathlib.Core.Path.{_≡_, refl, sym, ap, _∙_}
+use mathlib.Core.Path.{_≡_, refl, ap, _∙_}
 use mathlib.Core.List.{List}
 use Prim.Native.Nat.{ℕ, zero, suc, _<_}
 use Rattle.bits.specs.Xor.{_⊕_}
@@ -11,7 +11,7 @@ use Rattle.aes.specs.Expansion.{next-key, round-key}
 use Rattle.aes.specs.Cipher.{state-after, cipher}
 use Rattle.aes.proofs.States.{equal-states}
 use Rattle.frame.specs.Shares.{Shares, share, each-share, with-each-share, joined}
-use Rattle.frame.specs.Lookups.{position, sub-shares}
+use Rattle.frame.specs.Lookups.{position}
 use Rattle.frame.specs.Rounds.{split-plaintext, key-shares, substituted, mixing-round, last-round, shares-after, ten-rounds, frame-shares}
 use Rattle.frame.specs.Promises.{Bytes}
 use Rattle.frame.proofs.Joining.{All-bytes, joined-shift, joined-add, joined-mix, joined-sub}

@@ -1,6 +1,6 @@
 -- `aes::add_round_key` meets its contract.
 use borrow.Author.Needs.{needs}
-use Rattle.aes.specs.State.{column, add-words}
+use Rattle.aes.specs.State.{column}
 use Rattle.aes.specs.Steps.{add-round-key}
 use Rattle.aes.proofs.Made.{four-made}
 use Rattle.aes.proofs.add_round_key.Statement.{statement}

@@ -1,6 +1,5 @@
 -- `frame::rounds::add_keys` meets its contract.
 use borrow.Author.Needs.{needs}
-use Rattle.aes.specs.Steps.{add-round-key}
 use Rattle.frame.specs.Shares.{share, with-each-share}
 use Rattle.frame.proofs.Shared.{three-made}
 use Rattle.frame.proofs.rounds.add_keys.Statement.{statement}
