@@ -20,7 +20,7 @@ OVER_TABLES = {
 OTHERS = {
     "log_entries::put": "the kinds and values of a row, slices of any length",
     "buffers::clear": "a buffer of any length",
-    "frame::rounds::ten": "the rounds",
+    "frame_rounds::ten": "the rounds",
 }
 
 

@@ -1,13 +1,15 @@
 -- What the code makes of four calls' results is what the definitions make of four.
 use mathlib.Core.Path.{_≡_}
 use mathlib.Core.List.{List, [], _∷_}
-use Prim.Native.Nat.{ℕ}
+use Prim.Native.Nat.{ℕ, _+_, _*_}
+use native.Mathlib.Nat.{add-zero}
+use native.Mathlib.Omega.{arith}
 use lib.Bits.{bitXor}
 use lib.ListN.{getD}
 use Rattle.bits.specs.Xor.{_⊕_}
 use Rattle.table.specs.Balanced.{at}
 use Rattle.sbox.specs.Field.{times}
-use Rattle.aes.specs.State.{Word, State, four, column, add-words}
+use Rattle.aes.specs.State.{Word, State, four, column, word-from, state-from, add-words}
 use Rattle.aes.specs.Steps.{mixed-byte, mix-column}
 use Rattle.aes.specs.Expansion.{next-words}
 
@@ -33,3 +35,18 @@ pub column-made : (w : Word) (d0 d1 d2 d3 t0 t1 t2 t3 : ℕ)
     (mix-column w)
 unfolding mix-column four mixed-byte at _⊕_
 column-made w d0 d1 d2 d3 t0 t1 t2 t3 a b c d e f g h = rw (a, b, c, d, e, f, g, h)
+
+-- words and states, from a list's bytes
+pub word-from-made : (bytes : List ℕ) (p : ℕ)
+    → _≡_ {A = Word} (getD bytes p 0 ∷ getD bytes (p + 1) 0 ∷ getD bytes (p + 2) 0 ∷ getD bytes (p + 3) 0 ∷ []) (word-from bytes p)
+unfolding word-from four at
+word-from-made bytes p = rw (add-zero p)
+
+first-place : (p : ℕ) → p + 4 * 0 ≡ p
+first-place p = omega arith
+
+pub state-from-made : (bytes : List ℕ) (p : ℕ) (a b c d : Word) → a ≡ word-from bytes p → b ≡ word-from bytes (p + 4)
+    → c ≡ word-from bytes (p + 8) → d ≡ word-from bytes (p + 12)
+    → _≡_ {A = State} (a ∷ b ∷ c ∷ d ∷ []) (state-from bytes p)
+unfolding state-from four
+state-from-made bytes p a b c d e f g h = rw (e, f, g, h, first-place p)

@@ -1,6 +1,6 @@
 -- The state of FIPS 197, section 3.4: four columns of four bytes. A word is a column, and a round key is a state of four words.
 use mathlib.Core.List.{List, [], _∷_}
-use Prim.Native.Nat.{ℕ, _+_, _*_}
+use Prim.Native.Nat.{ℕ, _+_, _*_, _<_}
 use lib.ListN.{getD}
 use Rattle.bits.specs.Xor.{_⊕_}
 use Rattle.table.specs.Balanced.{at}
@@ -35,3 +35,7 @@ state-from bytes p = four (λ c. word-from bytes (p + 4 * c))
 -- two words, byte by byte
 unfoldable pub add-words : Word → Word → Word
 add-words u v = four (λ r. at u r ⊕ at v r)
+
+-- its bytes are bytes, as those of the code's arrays are
+unfoldable pub Bytes : State → Type 0
+Bytes s = (r c : ℕ) → byte s r c < 256

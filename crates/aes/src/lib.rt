@@ -1,9 +1,10 @@
-// The steps of FIPS 197 that act on each share by itself: row shifting, column mixing, key addition, and the words of the next round key.
-// A share is four columns of four bytes. No branch and no index depends on a byte.
+// The steps of FIPS 197 that act on each share by itself: row shifting, column mixing, key addition, and the words of the next round key;
+// and states read from bytes. A share is four columns of four bytes. No branch and no index depends on a byte.
 ghost use mathlib.Core.Path.{_≡_};
-ghost use Prim.Native.Nat.{_<_};
+ghost use Prim.Native.Nat.{_+_, _<_};
+ghost use lib.ListN.{length};
 ghost use Rattle.sbox.specs.Field.{times};
-ghost use Rattle.aes.specs.State.{add-words};
+ghost use Rattle.aes.specs.State.{word-from, state-from, add-words};
 ghost use Rattle.aes.specs.Steps.{shift-rows, mix-column, mix-columns, add-round-key};
 ghost use Rattle.aes.specs.Expansion.{rot-word, rcon as Expansion·rcon, next-words};
 
@@ -97,4 +98,24 @@ pub fn next_words(k: [[u8; 4]; 4], changed: [u8; 4]) -> [[u8; 4]; 4]
     let w2 = add_words(k[2], w1);
     let w3 = add_words(k[3], w2);
     [w0, w1, w2, w3]
+}
+
+// Four bytes from a position on, and sixteen as a state. The caller has measured the bytes, so these have a `requires`.
+pub fn state_from(bytes: &[u8], p: usize) -> [[u8; 4]; 4]
+    requires { ⌜ p + 15 < length (now bytes) ⌝ }
+    ensures { λ r. ⌜ r ≡ state-from (now (bytes .entry)) p ⌝ }
+{
+    [
+        word_from(bytes, p),
+        word_from(bytes, p + 4),
+        word_from(bytes, p + 8),
+        word_from(bytes, p + 12),
+    ]
+}
+
+fn word_from(bytes: &[u8], p: usize) -> [u8; 4]
+    requires { ⌜ p + 3 < length (now bytes) ⌝ }
+    ensures { λ r. ⌜ r ≡ word-from (now (bytes .entry)) p ⌝ }
+{
+    [bytes[p], bytes[p + 1], bytes[p + 2], bytes[p + 3]]
 }

@@ -6,8 +6,8 @@ use Rattle.refusals.specs.Left.{left}
 use Rattle.refusals.proofs.Left.{left-refused, left-accepted}
 use Rattle.aes.specs.State.{State}
 use Rattle.frame.specs.declared.Encrypted.{Encrypted}
-use Rattle.frame.specs.Shares.{share}
-use Rattle.frame.specs.Rounds.{frame-shares}
+use Rattle.frame_lookups.specs.Shares.{share}
+use Rattle.frame_rounds.specs.Rounds.{frame-shares}
 use Rattle.frame.specs.Frame.{frame-refusal, flat, encrypted, frame-reply}
 use Rattle.cippazhey.specs.Export.{exported-share}
 

@@ -4,8 +4,8 @@ use Prim.Native.Nat.{ℕ, _+_, _*_}
 use Rattle.refusals.specs.Left.{left}
 use Rattle.lookup.specs.declared.Called.{Called}
 use Rattle.aes.specs.State.{State}
-use Rattle.frame.specs.Shares.{share}
-use Rattle.frame.specs.Rounds.{frame-shares}
+use Rattle.frame_lookups.specs.Shares.{share}
+use Rattle.frame_rounds.specs.Rounds.{frame-shares}
 use Rattle.frame.specs.Frame.{frame-refusal, flat}
 
 unfoldable pub exported : Called → ℕ

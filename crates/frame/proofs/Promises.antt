@@ -8,11 +8,12 @@ use Rattle.refusals.specs.Left.{left}
 use Rattle.table.specs.Balanced.{at}
 use Rattle.sbox.specs.Tabulate.{tabulate}
 use Rattle.aes.specs.State.{four, column, byte, state-of}
-use Rattle.frame.specs.Shares.{Shares, share, joined}
-use Rattle.frame.specs.Frame.{cleared, flat, encrypted, frame-reply, frame-scratch}
+use Rattle.frame_lookups.specs.Shares.{Shares, share, joined}
+use Rattle.frame_lookups.specs.Scratch.{cleared}
+use Rattle.frame.specs.Frame.{flat, encrypted, frame-reply, frame-scratch}
 use Rattle.frame.specs.Promises.{ciphertext, Frame-right, Scratch-cleared}
-use Rattle.frame.proofs.Bytes.{shares-bytes}
-use Rattle.frame.proofs.Right.{frame-joins}
+use Rattle.frame_rounds.proofs.Bytes.{shares-bytes}
+use Rattle.frame_rounds.proofs.Right.{frame-joins}
 
 -- the shares' bytes, joined, are the joined state's bytes
 flat-joins : (s : Shares) → ciphertext (encrypted 0 s) ≡ flat (joined s)

@@ -5,10 +5,12 @@ use Prim.Native.Nat.{ℕ}
 use lib.ListN.{getD, replicate}
 use Rattle.refusals.specs.Left.{left}
 use Rattle.refusals.proofs.Left.{left-refused, left-accepted}
-use Rattle.aes.specs.State.{State}
-use Rattle.frame.specs.Shares.{Shares, share}
-use Rattle.frame.specs.Rounds.{frame-shares}
-use Rattle.frame.specs.Frame.{frame-refusal, cleared, flat, encrypted, frame-reply, frame-scratch}
+use Rattle.aes.specs.State.{State, state-from}
+use Rattle.aes.specs.Steps.{add-round-key}
+use Rattle.frame_lookups.specs.Scratch.{cleared}
+use Rattle.frame_lookups.specs.Shares.{Shares, share, with-each-share}
+use Rattle.frame_rounds.specs.Rounds.{split-plaintext, ten-rounds, frame-shares}
+use Rattle.frame.specs.Frame.{frame-refusal, flat, encrypted, frame-reply, frame-scratch}
 
 module _ (p k1 k2 k3 : State) (random scratch : List ℕ) (j : ℕ) (told : j ≡ frame-refusal random scratch) where
   pub frame-refused : (j ≡ 0 → ⊥)
@@ -34,3 +36,11 @@ pub scratch-cleared : (random scratch after : List ℕ) (j : ℕ) → j ≡ fram
     → after ≡ frame-scratch random scratch
 unfolding frame-scratch
 scratch-cleared random scratch after j told z e = e ∙ left-accepted j _ _ _ told z
+
+-- from the first key addition to the last share
+pub frame-made : (random : List ℕ) (p : State) (key : Shares) (r1 r2 once masked : State) (s done : Shares)
+    → r1 ≡ state-from random 0 → r2 ≡ state-from random 16 → once ≡ add-round-key p r1 → masked ≡ add-round-key once r2
+    → s ≡ with-each-share add-round-key (masked ∷ r1 ∷ r2 ∷ []) key → done ≡ ten-rounds random s key
+    → done ≡ frame-shares random p key
+unfolding frame-shares split-plaintext
+frame-made random p key r1 r2 once masked s done e1 e2 eo em es ed = rw (ed, es, em, eo, e1, e2)

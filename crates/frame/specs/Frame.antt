@@ -1,15 +1,16 @@
 -- The call: its refusals, what it hands back, and what it leaves in the lent scratch.
 use mathlib.Core.Bool.{not}
-use mathlib.Core.List.{List, [], _∷_, _++_}
+use mathlib.Core.List.{List, [], _∷_}
 use Prim.Native.Nat.{ℕ}
 use lib.Dec.{eqb, ltb}
-use lib.ListN.{length, replicate, drop}
+use lib.ListN.{length, replicate}
 use Rattle.refusals.specs.Checks.{Check, _when_, first-of}
 use Rattle.refusals.specs.Left.{left}
 use Rattle.aes.specs.State.{State, byte}
 use Rattle.frame.specs.declared.Encrypted.{Encrypted}
-use Rattle.frame.specs.Shares.{Shares, share}
-use Rattle.frame.specs.Rounds.{frame-shares}
+use Rattle.frame_lookups.specs.Scratch.{cleared}
+use Rattle.frame_lookups.specs.Shares.{Shares, share}
+use Rattle.frame_rounds.specs.Rounds.{frame-shares}
 
 -- 26, 13
 unfoldable pub frame-checks : (random scratch : List ℕ) → List Check
@@ -17,10 +18,6 @@ frame-checks random scratch = 26 when (not (eqb (length random) 632)) ∷ 13 whe
 
 unfoldable pub frame-refusal : (random scratch : List ℕ) → ℕ
 frame-refusal random scratch = first-of (frame-checks random scratch)
-
--- the first 256 bytes are 0, and those behind them stay
-unfoldable pub cleared : (scratch : List ℕ) → List ℕ
-cleared scratch = replicate 256 0 ++ drop 256 scratch
 
 -- a state's sixteen bytes, column by column
 unfoldable pub flat : State → List ℕ

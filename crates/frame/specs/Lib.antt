@@ -1,6 +1,3 @@
--- A whole frame of AES-128 in three shares: its lookups, its rounds, its refusals, what it hands back, and what is promised of it.
-pub mod Shares
-pub mod Lookups
-pub mod Rounds
+-- A whole frame of AES-128 in three shares: its refusals, what it hands back and leaves, and what is promised of it.
 pub mod Frame
 pub mod Promises

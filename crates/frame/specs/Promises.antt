@@ -6,15 +6,11 @@ use lib.ListN.{take, drop, replicate}
 use Rattle.bits.specs.Xor.{_⊕_}
 use Rattle.table.specs.Balanced.{at}
 use Rattle.sbox.specs.Tabulate.{tabulate}
-use Rattle.aes.specs.State.{State, byte}
+use Rattle.aes.specs.State.{State, Bytes}
 use Rattle.aes.specs.Cipher.{cipher}
 use Rattle.frame.specs.declared.Encrypted.{Encrypted}
-use Rattle.frame.specs.Shares.{joined}
+use Rattle.frame_lookups.specs.Shares.{joined}
 use Rattle.frame.specs.Frame.{frame-refusal, flat, frame-reply, frame-scratch}
-
--- its bytes are bytes, as those of the code's arrays are
-unfoldable pub Bytes : State → Type 0
-Bytes s = (r c : ℕ) → byte s r c < 256
 
 -- the sixteen bytes that the three shares join to
 unfoldable pub ciphertext : Encrypted → List ℕ

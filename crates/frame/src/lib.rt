@@ -1,13 +1,10 @@
 // One block encrypted by FIPS 197 under a key of 128 bits, with key and state in three shares.
 ghost use mathlib.Core.Path.{_≡_};
-ghost use Prim.Native.Nat.{_+_, _≤_, _<_};
+ghost use Prim.Native.Nat.{_≤_};
 ghost use lib.ListN.{length};
-ghost use Rattle.aes.specs.State.{word-from, state-from};
-ghost use Rattle.frame.specs.Rounds.{frame-shares};
-ghost use Rattle.frame.specs.Frame.{frame-refusal, cleared, flat as Frame·flat, frame-reply, frame-scratch};
-
-mod lookups;
-mod rounds;
+ghost use Rattle.frame_lookups.specs.Scratch.{cleared};
+ghost use Rattle.frame_rounds.specs.Rounds.{frame-shares};
+ghost use Rattle.frame.specs.Frame.{frame-refusal, flat as Frame·flat, frame-reply, frame-scratch};
 
 // What a frame hands back: its refusal, and the three shares' bytes, column by column.
 pub struct Encrypted {
@@ -73,32 +70,13 @@ fn encrypt(
     ensures { λ _. ⌜ now (scratch .exit) ≡ cleared (now (scratch .entry)) ⌝ }
 {
     let table = sbox::table();
-    let r1 = state_from(random, 0);
-    let r2 = state_from(random, 16);
+    let r1 = aes::state_from(random, 0);
+    let r2 = aes::state_from(random, 16);
     let masked = aes::add_round_key(aes::add_round_key(plaintext, r1), r2);
-    let s = rounds::add_keys([masked, r1, r2], key);
-    let done = rounds::ten(s, key, random, &table, scratch);
-    lookups::clear(scratch);
+    let s = frame_rounds::add_keys([masked, r1, r2], key);
+    let done = frame_rounds::ten(s, key, random, &table, scratch);
+    frame_lookups::clear(scratch);
     done
-}
-
-fn state_from(bytes: &[u8], p: usize) -> [[u8; 4]; 4]
-    requires { ⌜ p + 15 < length (now bytes) ⌝ }
-    ensures { λ r. ⌜ r ≡ state-from (now (bytes .entry)) p ⌝ }
-{
-    [
-        word_from(bytes, p),
-        word_from(bytes, p + 4),
-        word_from(bytes, p + 8),
-        word_from(bytes, p + 12),
-    ]
-}
-
-fn word_from(bytes: &[u8], p: usize) -> [u8; 4]
-    requires { ⌜ p + 3 < length (now bytes) ⌝ }
-    ensures { λ r. ⌜ r ≡ word-from (now (bytes .entry)) p ⌝ }
-{
-    [bytes[p], bytes[p + 1], bytes[p + 2], bytes[p + 3]]
 }
 
 // A state's bytes, column by column. A struct's field can't be an array of arrays.

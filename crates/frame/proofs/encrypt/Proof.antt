@@ -1,8 +1,8 @@
 -- `frame::encrypt` meets its contract.
 use native.Mathlib.Omega.{arith}
 use borrow.Author.Needs.{needs}
-use Rattle.frame.proofs.Shared.{frame-made}
-use Rattle.frame.proofs.Clearing.{last-clears}
+use Rattle.frame.proofs.Replies.{frame-made}
+use Rattle.frame_lookups.proofs.Clearing.{last-clears}
 use Rattle.frame.proofs.encrypt.Statement.{statement}
 use Rattle.frame.proofs.encrypt.Tie as tie
 

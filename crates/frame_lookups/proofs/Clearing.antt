@@ -1,0 +1,53 @@
+-- What stays of the scratch: the first 256 bytes are cleared again and again, and nothing behind them is touched.
+use mathlib.Core.Path.{_≡_, sym, ap, _∙_}
+use mathlib.Core.List.{List, _++_}
+use Prim.Native.Nat.{ℕ, _^_, _≤_}
+use native.Mathlib.Nat.{le-refl}
+use lib.ListN.{length, take, drop, replicate, length-replicate}
+use lib.Seq.{drop-at, length-take-le}
+use Rattle.lookup.specs.declared.Case.{Case}
+use Rattle.lookup.specs.Case.{Q}
+use Rattle.lookup.specs.Bounded.{Bounded}
+use Rattle.lookup.specs.Method2.{scratch-2}
+use Rattle.lookup.proofs.Second.{beyond, r-prime-below}
+use Rattle.frame_lookups.specs.Scratch.{cleared}
+
+-- what is cleared is the part of the first 256 bytes
+pub part-cleared : (part scratch : List ℕ) → 256 ≤ length scratch → part ≡ replicate (length (take 256 scratch)) 0
+    → part ++ drop 256 scratch ≡ cleared scratch
+unfolding cleared
+part-cleared part scratch room e = ap (λ (xs : List ℕ). xs ++ drop 256 scratch) (e ∙ ap (λ k. replicate k 0) (length-take-le 256 scratch room))
+
+pub cleared-again : (scratch : List ℕ) → cleared (cleared scratch) ≡ cleared scratch
+unfolding cleared
+cleared-again scratch =
+    let zeros : List ℕ = replicate 256 0 in
+    ap (λ (rest : List ℕ). zeros ++ rest) (drop-at zeros (drop 256 scratch) 256 (length-replicate {A = ℕ} 256 0))
+
+-- scratch that was clean, run upon and cleared is as it was
+pub cleared-after : (c : Case) (table before after : List ℕ) → Bounded c → 2 ^ c .n ≡ 256 → before ≡ cleared before
+    → after ≡ scratch-2 (Q c) c table before → cleared after ≡ before
+unfolding cleared Q
+cleared-after c table before after k size clean e =
+    let rest : drop (2 ^ c .n) after ≡ drop (2 ^ c .n) before
+    = ap (drop (2 ^ c .n)) e ∙ beyond c table (2 ^ c .n) before (r-prime-below c (k .r1) (k .r2) (k .r3)) (le-refl _) in
+    ap (λ (xs : List ℕ). replicate 256 0 ++ xs) (rw size at rest) ∙ sym clean
+
+-- what was just cleared is clean
+pub now-clean : (before now : List ℕ) → now ≡ cleared before → now ≡ cleared now
+now-clean before now e = e ∙ sym (cleared-again before) ∙ ap cleared (sym e)
+
+-- one lookup: cleared, then run
+pub lookup-clears : (before cleared-first after : List ℕ) → cleared-first ≡ cleared before → cleared after ≡ cleared-first
+    → cleared after ≡ cleared before
+lookup-clears before cleared-first after e f = f ∙ e
+
+-- four lookups or words, one after the other
+pub four-clear : (s0 s1 s2 s3 s4 : List ℕ) → cleared s1 ≡ cleared s0 → cleared s2 ≡ cleared s1 → cleared s3 ≡ cleared s2
+    → cleared s4 ≡ cleared s3 → cleared s4 ≡ cleared s0
+four-clear s0 s1 s2 s3 s4 e f g h = h ∙ g ∙ f ∙ e
+
+-- cleared after the last lookup
+pub last-clears : (before after cleared-last : List ℕ) → cleared after ≡ cleared before → cleared-last ≡ cleared after
+    → cleared-last ≡ cleared before
+last-clears before after cleared-last e f = f ∙ e

@@ -1,0 +1,2 @@
+-- The rounds of an AES-128 frame in three shares.
+pub mod Rounds
