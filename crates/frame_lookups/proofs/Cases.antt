@@ -10,7 +10,7 @@ use Rattle.sbox.proofs.Sbox.{length-sbox}
 use Rattle.lookup.specs.declared.Case.{Case}
 use Rattle.lookup.specs.Bounded.{Bounded}
 use Rattle.lookup.specs.Method2.{answer-2}
-use Rattle.frame_lookups.specs.Lookups.{case-2, answered}
+use Rattle.frame_lookups.specs.Lookups.{case-2, case-at, answered}
 
 pub bytes-bounded : (x0 r1 r2 s1 s2 r3 : ℕ) → x0 < 256 → r1 < 256 → r2 < 256 → s1 < 256 → s2 < 256 → r3 < 256
     → Bounded (case-2 x0 r1 r2 s1 s2 r3)
@@ -27,5 +27,5 @@ answer-of c table answer e a = a ∙ ap (answer-2 c) e
 pub answered-by : (random : List ℕ) (p x0 r1 r2 answer : ℕ) (c : Case)
     → c ≡ case-2 x0 r1 r2 (getD random p 0) (getD random (p + 1) 0) (getD random (p + 2) 0) → answer ≡ answer-2 c sbox
     → answer ≡ answered random p x0 r1 r2
-unfolding answered at
+unfolding answered case-at at
 answered-by random p x0 r1 r2 answer c e a = a ∙ ap (λ (k : Case). answer-2 k sbox) e

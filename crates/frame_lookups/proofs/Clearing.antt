@@ -1,16 +1,19 @@
--- What stays of the scratch: the first 256 bytes are cleared again and again, and nothing behind them is touched.
+-- What stays of the scratch: the first 256 bytes are cleared again and again, and nothing behind them is touched. And what a lookup leaves.
 use mathlib.Core.Path.{_≡_, sym, ap, _∙_}
 use mathlib.Core.List.{List, _++_}
-use Prim.Native.Nat.{ℕ, _^_, _≤_}
+use Prim.Native.Nat.{ℕ, _+_, _^_, _≤_}
 use native.Mathlib.Nat.{le-refl}
-use lib.ListN.{length, take, drop, replicate, length-replicate}
+use lib.ListN.{length, getD, take, drop, replicate, length-replicate}
 use lib.Seq.{drop-at, length-take-le}
+use Rattle.table.specs.Balanced.{at}
+use Rattle.sbox.specs.Sbox.{sbox}
 use Rattle.lookup.specs.declared.Case.{Case}
 use Rattle.lookup.specs.Case.{Q}
 use Rattle.lookup.specs.Bounded.{Bounded}
 use Rattle.lookup.specs.Method2.{scratch-2}
 use Rattle.lookup.proofs.Second.{beyond, r-prime-below}
 use Rattle.frame_lookups.specs.Scratch.{cleared}
+use Rattle.frame_lookups.specs.Lookups.{case-2, case-at, filled}
 
 -- what is cleared is the part of the first 256 bytes
 pub part-cleared : (part scratch : List ℕ) → 256 ≤ length scratch → part ≡ replicate (length (take 256 scratch)) 0
@@ -51,3 +54,17 @@ four-clear s0 s1 s2 s3 s4 e f g h = h ∙ g ∙ f ∙ e
 pub last-clears : (before after cleared-last : List ℕ) → cleared after ≡ cleared before → cleared-last ≡ cleared after
     → cleared-last ≡ cleared before
 last-clears before after cleared-last e f = f ∙ e
+
+-- what a lookup leaves
+pub scratch-of : (c : Case) (table before after : List ℕ) → table ≡ sbox → 2 ^ c .n ≡ 256 → after ≡ scratch-2 (Q c) c table before
+    → after ≡ scratch-2 256 c sbox before
+unfolding Q
+scratch-of c table before after e size a =
+    a ∙ ap (λ k. scratch-2 k c table before) size ∙ ap (λ (t : List ℕ). scratch-2 256 c t before) e
+
+pub filled-by : (random : List ℕ) (p x0 r1 r2 : ℕ) (before clean after : List ℕ) (c : Case)
+    → c ≡ case-2 x0 r1 r2 (getD random p 0) (getD random (p + 1) 0) (getD random (p + 2) 0) → clean ≡ cleared before
+    → after ≡ scratch-2 256 c sbox clean → after ≡ filled random p x0 r1 r2 before
+unfolding filled case-at at
+filled-by random p x0 r1 r2 before clean after c e f a =
+    a ∙ ap (λ (k : Case). scratch-2 256 k sbox clean) e ∙ ap (scratch-2 256 _ sbox) f

@@ -1,4 +1,4 @@
 -- The lookups of an AES-128 frame: three shares of a state, the random bytes that each lookup takes, and the scratch.
 pub mod Shares
-pub mod Lookups
 pub mod Scratch
+pub mod Lookups

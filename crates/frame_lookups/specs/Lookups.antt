@@ -4,8 +4,9 @@ use Prim.Native.Nat.{ℕ, _+_, _*_}
 use Rattle.table.specs.Balanced.{at}
 use Rattle.sbox.specs.Sbox.{sbox}
 use Rattle.lookup.specs.declared.Case.{Case}
-use Rattle.lookup.specs.Method2.{answer-2}
+use Rattle.lookup.specs.Method2.{scratch-2, answer-2}
 use Rattle.aes.specs.State.{Word, State, four, column}
+use Rattle.frame_lookups.specs.Scratch.{cleared}
 use Rattle.frame_lookups.specs.Shares.{Shares, share}
 
 -- where the random bytes s1, s2 and r3 of a lookup begin: rounds are counted from 0, and each makes twenty lookups. Bytes 0 to 31 mask the
@@ -18,9 +19,16 @@ unfoldable pub case-2 : (x0 r1 r2 s1 s2 r3 : ℕ) → Case
 case-2 x0 r1 r2 s1 s2 r3 =
     record { method = 2; n = 8; m = 8; x0 = x0; r1 = r1; r2 = r2; s1 = s1; s2 = s2; r3 = r3; b = 0 }
 
--- a lookup's answer in the S-box: x0, r1 and r2 are a byte's three shares, and its random bytes begin at p
+-- the lookup whose random bytes begin at p; x0, r1 and r2 are a byte's three shares
+unfoldable pub case-at : (random : List ℕ) → (p x0 r1 r2 : ℕ) → Case
+case-at random p x0 r1 r2 = case-2 x0 r1 r2 (at random p) (at random (p + 1)) (at random (p + 2))
+
+-- its answer in the S-box, and what it leaves in the scratch, which is cleared before it
 unfoldable pub answered : (random : List ℕ) → (p x0 r1 r2 : ℕ) → ℕ
-answered random p x0 r1 r2 = answer-2 (case-2 x0 r1 r2 (at random p) (at random (p + 1)) (at random (p + 2))) sbox
+answered random p x0 r1 r2 = answer-2 (case-at random p x0 r1 r2) sbox
+
+unfoldable pub filled : (random : List ℕ) → (p x0 r1 r2 : ℕ) → (scratch : List ℕ) → List ℕ
+filled random p x0 r1 r2 scratch = scratch-2 256 (case-at random p x0 r1 r2) sbox (cleared scratch)
 
 -- a word's four lookups, in byte order: the answers, and the lookups' masks s1; from p + 1 on, their s2
 unfoldable pub word-answers : (random : List ℕ) → (p : ℕ) → (share1 share2 share3 : Word) → Word

@@ -5,12 +5,13 @@ ghost use Prim.Native.Nat.{_+_, _*_, _^_, _≤_, _<_};
 ghost use lib.ListN.{length};
 ghost use Rattle.sbox.specs.Sbox.{sbox};
 ghost use Rattle.lookup.specs.Bounded.{Bounded};
-ghost use Rattle.lookup.specs.Method2.{answer-2};
+ghost use Rattle.lookup.specs.Method2.{scratch-2, answer-2};
 ghost use Rattle.frame_lookups.specs.Scratch.{cleared};
 ghost use Rattle.frame_lookups.specs.Lookups.{
   position as Lookups·position,
   case-2,
   answered,
+  filled,
   word-answers,
   word-masks,
   column-answers,
@@ -34,6 +35,7 @@ fn run(case: Case, table: &[u8], scratch: &mut [u8]) -> u8
     requires { ⌜ Bounded case ⌝ }
     requires { ⌜ 2 ^ case .n ≡ 256 ⌝ }
     requires { ⌜ now table ≡ sbox ⌝ }
+    ensures { λ _. ⌜ now (scratch .exit) ≡ scratch-2 256 case sbox (now (scratch .entry)) ⌝ }
     ensures { λ r. ⌜ r ≡ answer-2 case sbox ⌝ }
     ensures { λ _. ⌜ cleared (now (scratch .exit)) ≡ now (scratch .entry) ⌝ }
 {
@@ -60,11 +62,13 @@ fn make_case(x0: u8, r1: u8, r2: u8, s1: u8, s2: u8, r3: u8) -> Case
     }
 }
 
-// The answer for a byte whose three shares are x0, r1 and r2.
+// The answer for a byte whose three shares are x0, r1 and r2. What it leaves in the scratch is said too: the answer alone does not depend on
+// r3, nor on the method.
 fn answer(x0: u8, r1: u8, r2: u8, random: &[u8], p: usize, table: &[u8], scratch: &mut [u8]) -> u8
     requires { ⌜ p + 2 < length (now random) ⌝ }
     requires { ⌜ now table ≡ sbox ⌝ }
     requires { ⌜ 256 ≤ length (now scratch) ⌝ }
+    ensures { λ _. ⌜ now (scratch .exit) ≡ filled (now (random .entry)) p x0 r1 r2 (now (scratch .entry)) ⌝ }
     ensures { λ r. ⌜ r ≡ answered (now (random .entry)) p x0 r1 r2 ⌝ }
     ensures { λ _. ⌜ cleared (now (scratch .exit)) ≡ cleared (now (scratch .entry)) ⌝ }
 {

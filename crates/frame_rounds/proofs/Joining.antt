@@ -16,7 +16,7 @@ use Rattle.aes.specs.Steps.{sub-bytes, shift-rows, mixed-byte, mix-column, mix-
 use Rattle.aes.proofs.Linear.{two-adds, three-adds}
 use Rattle.aes.proofs.States.{equal-states}
 use Rattle.frame_lookups.specs.Shares.{Shares, share, three, each-share, with-each-share, joined}
-use Rattle.frame_lookups.specs.Lookups.{case-2, answered, word-answers, word-masks, column-answers, state-answers, state-masks, sub-shares}
+use Rattle.frame_lookups.specs.Lookups.{case-2, case-at, answered, word-answers, word-masks, column-answers, state-answers, state-masks, sub-shares}
 
 -- the bytes of three shares, and what they join to at one place
 unfoldable pub All-bytes : Shares → Type 0
@@ -62,8 +62,8 @@ joined-mix s h =
 module _ (random : List ℕ) (small : (i : ℕ) → at random i < 256) where
   pub answered-is : (p x0 r1 r2 : ℕ) → r1 < 256 → r2 < 256
       → answered random p x0 r1 r2 ≡ at sbox (x0 ⊕ (r1 ⊕ r2)) ⊕ at random p ⊕ at random (p + 1)
-  unfolding answered case-2 masked Q
-  answered-is p x0 r1 r2 h k = answer-2-is (case-2 x0 r1 r2 (at random p) (at random (p + 1)) (at random (p + 2))) sbox h k (small (p + 2))
+  unfolding answered case-at case-2 masked Q
+  answered-is p x0 r1 r2 h k = answer-2-is (case-at random p x0 r1 r2) sbox h k (small (p + 2))
 
   pub answered-joins : (p x0 r1 r2 : ℕ) → r1 < 256 → r2 < 256
       → answered random p x0 r1 r2 ⊕ at random p ⊕ at random (p + 1) ≡ at sbox (x0 ⊕ r1 ⊕ r2)

@@ -13,7 +13,7 @@ returns c =
     let second = third .before .before .before .before in
     let first = second .before .before .before .before in (
       search word-answers-made,
-      four-clear _ _ _ _ _ (first .answer .ensures .1) (second .answer2 .ensures .1) (third .answer3 .ensures .1) (fourth .answer4 .ensures .1),
+      four-clear _ _ _ _ _ (first .answer .ensures .1 .1) (second .answer2 .ensures .1 .1) (third .answer3 .ensures .1 .1) (fourth .answer4 .ensures .1 .1),
     )
 
 pub word-answers-spec : {M : Type 1} → statement M
