@@ -84,7 +84,8 @@ uint16_t cippazhey_plain_call(uint32_t method, uint32_t n, uint32_t m, uint32_t 
 //                       are added to key1's share of the round keys.
 //   random              632 bytes; only read. First r1 and r2 of the plaintext, 16 bytes each: its shares are
 //                       plaintext ^ r1 ^ r2, r1, r2. Then s1, s2, r3 of each of the 200 lookups: in each of ten rounds, the
-//                       four bytes of the rotated key word come before the sixteen of the state.
+//                       four bytes of the rotated key word (bytes 1, 2, 3, 0 of the last word) come before the sixteen of
+//                       the state, each in byte order.
 //   scratch             at least 256 bytes, whatever they hold: the first 256 are cleared before each lookup and after the
 //                       last, and are zero afterwards. What stands behind them stays.
 //   share1 .. share3    16 bytes each. share1 is made of the lookups' answers and key1, share2 of the masks s1 and key2,
@@ -95,9 +96,10 @@ uint16_t cippazhey_plain_call(uint32_t method, uint32_t n, uint32_t m, uint32_t 
 //   - Scratch and the three results overlap neither each other nor what is read, and nothing else touches any of them while
 //     the call runs.
 //   - The random bytes are uniform, independent, secret, and new for each frame: none is ever used twice. No call can check
-//     that. After the call they are cleared with cippazhey_clear: beside them, one share of the state is as good as all.
+//     that. After the call they are cleared with cippazhey_clear: beside them, the first share of a byte that was looked up
+//     gives the byte away.
 //   - key2 and key3 are uniform, independent masks, new for each frame. A key that is kept in shares gets new ones without
-//     being joined: add two new masks to key1, and one of them to key2, the other to key3.
+//     being joined: add two new masks to key1, one after the other, and one of them to key2, the other to key3.
 //
 // What is proved of the source:
 //   - Every call returns, and reads and writes only the bytes it is lent.
