@@ -11,9 +11,9 @@ use Rattle.lookup.specs.Call.{log-of}
 use Rattle.calls.specs.Reply.{logged-log}
 use Rattle.secrecy.specs.Count.{Mask-places, chosen-case, mask-widths, value-at}
 
--- a state gives each call, by its number, an input of the width
-abbrev pub State : (calls n : ℕ) → (state : ℕ → ℕ) → Type 0
-State calls n x = (k : ℕ) → k < calls → x k < 2 ^ n
+-- each call's input has the table's width
+abbrev pub Inputs-fit : (calls n : ℕ) → (state : ℕ → ℕ) → Type 0
+Inputs-fit calls n x = (k : ℕ) → k < calls → x k < 2 ^ n
 
 -- the widths of all masks: a single call's, once for each call
 unfoldable pub layer-widths : (calls n m : ℕ) → List ℕ

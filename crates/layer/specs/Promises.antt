@@ -9,13 +9,13 @@ use Rattle.table.specs.Balanced.{balanced}
 use Rattle.table.specs.Refusals.{table-refusal}
 use Rattle.sbox.specs.Sbox.{sbox}
 use Rattle.lookup.specs.Call.{log-length}
-use Rattle.layer.specs.Layer.{State, layer-widths, layer-count, layer-call-count}
+use Rattle.layer.specs.Layer.{Inputs-fit, layer-widths, layer-count, layer-call-count}
 
 -- for every balanced table, so many calls, any two entries, of one call's log or of two calls', any two values and any two states:
 -- as many choices of all masks put those values there for the one state as for the other
 unfoldable pub Logs-tell-nothing : (calls : ℕ) → Type 0
 Logs-tell-nothing calls =
-    (table : List ℕ) (n m : ℕ) (x y : ℕ → ℕ) (a b i j u v : ℕ) → balanced n m table ≡ true → State calls n x → State calls n y →
+    (table : List ℕ) (n m : ℕ) (x y : ℕ → ℕ) (a b i j u v : ℕ) → balanced n m table ≡ true → Inputs-fit calls n x → Inputs-fit calls n y →
     a < calls → b < calls → layer-count table calls n m x a b i j u v ≡ layer-count table calls n m y a b i j u v
 
 -- a layer is sixteen calls
@@ -25,14 +25,14 @@ Layer-tells-nothing = Logs-tell-nothing 16
 -- so is AES's, of sixteen bytes looked up in the S-box
 unfoldable pub Sbox-layer-tells-nothing : Type 0
 Sbox-layer-tells-nothing =
-    (x y : ℕ → ℕ) (a b i j u v : ℕ) → State 16 8 x → State 16 8 y → a < 16 → b < 16 →
+    (x y : ℕ → ℕ) (a b i j u v : ℕ) → Inputs-fit 16 8 x → Inputs-fit 16 8 y → a < 16 → b < 16 →
     layer-count sbox 16 8 8 x a b i j u v ≡ layer-count sbox 16 8 8 y a b i j u v
 
--- the same of what the calls leave, whatever scratch and logs are lent, refused ones too
+-- the same of what the calls leave, whatever scratch and logs are lent, the same ones for every choice, refused ones too
 unfoldable pub Layer-calls-tell-nothing : Type 0
 Layer-calls-tell-nothing =
     (table : List ℕ) (scratch lent : ℕ → List ℕ) (n m : ℕ) (x y : ℕ → ℕ) (a b i j u v : ℕ) → table-refusal n m table ≡ 0 →
-    State 16 n x → State 16 n y → a < 16 → b < 16 → i < log-length 2 n → j < log-length 2 n →
+    Inputs-fit 16 n x → Inputs-fit 16 n y → a < 16 → b < 16 → i < log-length 2 n → j < log-length 2 n →
     layer-call-count table scratch lent 16 n m x a b i j u v ≡ layer-call-count table scratch lent 16 n m y a b i j u v
 
 -- how many choices there are: 2^(3n + 2m) for each call

@@ -51,8 +51,8 @@ Lent-log-counted =
     i < log-length method n →
     at (logged-log (chosen-case single method n m x choice) table scratch lent) i ≡ at (log-of (chosen-case single method n m x choice) table) i
 
--- the third demand of the call itself, whatever scratch and log are lent, refused ones too: what it leaves in the log shows two values at
--- two positions equally often for any two inputs
+-- the third demand of the call itself, whatever scratch and log are lent, the same for every choice, refused ones too: what it leaves in the
+-- log shows two values at two positions equally often for any two inputs
 unfoldable pub Call-tells-nothing : Type 0
 Call-tells-nothing =
     (table scratch lent : List ℕ) (method n m x y i j u v : ℕ) → table-refusal n m table ≡ 0 → (method ≡ 2) ⊎ (method ≡ 3) → x < 2 ^ n
