@@ -4,7 +4,8 @@ use mathlib.Core.List.{List, [], _∷_, _++_}
 use Prim.Native.Nat.{ℕ, zero, suc, _+_, _*_, _^_}
 use native.Mathlib.Nat.{add-assoc, zero-add, suc-add, mul-comm}
 use lib.ListN.{length}
-use Rattle.counting.specs.Choice.{_▸_, over, total}
+use Rattle.counting.specs.Choice.{_▸_, over, width, Within, total}
+use Rattle.counting.proofs.Choice.{within-none, within-more, within-rest}
 use Rattle.counting.proofs.Sum.{sum-ext, sum-times}
 use Rattle.counting.proofs.Over.{over-ext}
 
@@ -16,6 +17,16 @@ appended (suc k) c d = c 0 ▸ appended k (λ i. c (suc i)) d
 pub appended-behind : (masks : ℕ) (c d : ℕ → ℕ) (i : ℕ) → appended masks c d (masks + i) ≡ d i
 appended-behind zero c d i = ap d (zero-add i)
 appended-behind (suc k) c d i = rw suc-add (appended-behind k (λ j. c (suc j)) d i)
+
+-- a choice within appended widths: its first masks alone are within the first, and those behind them within the second
+pub within-first : (ws vs : List ℕ) (c : ℕ → ℕ) → Within (ws ++ vs) c → Within ws (appended (length ws) c (λ i. 0))
+unfolding width
+within-first [] vs c h = within-none
+within-first (w ∷ ws) vs c h = within-more (h .each 0) (within-first ws vs (λ i. c (suc i)) (within-rest h))
+
+pub within-behind : (ws vs : List ℕ) (c : ℕ → ℕ) → Within (ws ++ vs) c → Within vs (λ i. c (length ws + i))
+within-behind [] vs c h = simp zero-add h
+within-behind (w ∷ ws) vs c h = simp suc-add (within-behind ws vs (λ i. c (suc i)) (within-rest h))
 
 pub over-append : (ws vs : List ℕ) (f : (ℕ → ℕ) → ℕ)
     → over (ws ++ vs) f ≡ over ws (λ c. over vs (λ d. f (appended (length ws) c d)))

@@ -1,13 +1,13 @@
 -- Widths that are repeated: factors that see the masks of one repetition each are counted one by one, and multiply.
 use mathlib.Core.Path.{_≡_, refl, sym, ap, ap₂, fun-ext, _∙_}
 use mathlib.Core.List.{List, flatten}
-use Prim.Native.Nat.{ℕ, zero, suc, _+_, _*_}
-use native.Mathlib.Nat.{zero-mul}
+use Prim.Native.Nat.{ℕ, zero, suc, _+_, _*_, _<_}
+use native.Mathlib.Nat.{not-suc-le-zero, le-of-suc-le-suc, zero-mul}
 use native.Mathlib.Omega.{arith}
 use lib.ListN.{length, replicate}
-use Rattle.counting.specs.Choice.{over, total}
+use Rattle.counting.specs.Choice.{over, Within, total}
 use Rattle.counting.proofs.Over.{over-ext}
-use Rattle.counting.proofs.Append.{appended, appended-behind, over-append, over-apart, total-append}
+use Rattle.counting.proofs.Append.{appended, appended-behind, within-first, within-behind, over-append, over-apart, total-append}
 use Rattle.counting.proofs.Product.{product, product-ext}
 
 module _ (ws : List ℕ) where
@@ -20,6 +20,18 @@ module _ (ws : List ℕ) where
 
   part-later : (i : ℕ) (c d : ℕ → ℕ) → part (suc i) (appended (length ws) c d) ≡ part i d
   part-later i c d = fun-ext (λ j. ap (appended (length ws) c d) (omega arith) ∙ appended-behind (length ws) c d (length ws * i + j))
+
+  -- the masks of one repetition alone are within the widths
+  pub part-within : (times : ℕ) (c : ℕ → ℕ) → Within (flatten (replicate times ws)) c → (i : ℕ) → i < times
+      → Within ws (appended (length ws) (part i c) (λ j. 0))
+  unfolding flatten
+  part-within zero c h i l = absurd (not-suc-le-zero l)
+  part-within (suc k) c h zero l =
+      let first : part 0 c ≡ c = fun-ext (λ j. ap c (omega arith)) in
+      rw first (within-first ws (flatten (replicate k ws)) c h)
+  part-within (suc k) c h (suc i) l =
+      let later : part (suc i) c ≡ part i (λ j. c (length ws + j)) = fun-ext (λ j. ap c (omega arith)) in
+      rw later (part-within k (λ j. c (length ws + j)) (within-behind ws (flatten (replicate k ws)) c h) i (le-of-suc-le-suc l))
 
   -- no factor sees what lies past the widths
   abbrev pub Seen-within : (factor : ℕ → (ℕ → ℕ) → ℕ) → Type 0
