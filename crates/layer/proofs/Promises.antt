@@ -1,4 +1,4 @@
--- A layer's promises hold, since each call alone tells nothing.
+-- A layer's promises hold, since each call alone tells nothing, and is accepted on clean scratch.
 use mathlib.Core.Path.{_≡_, refl, ap, _∙_}
 use mathlib.Core.Logic.{inl}
 use Prim.Native.Nat.{ℕ, _+_, _*_, _^_, _<_}
@@ -17,8 +17,10 @@ use Rattle.secrecy.specs.Promises.{Tells-nothing, Call-tells-nothing}
 use Rattle.secrecy.proofs.Promises.{tells-nothing}
 use Rattle.secrecy.proofs.Lent.{call-tells-nothing}
 use Rattle.layer.specs.Layer.{layer-widths, layer-count, layer-call-count}
-use Rattle.layer.specs.Promises.{Logs-tell-nothing, Layer-tells-nothing, Sbox-layer-tells-nothing, Layer-calls-tell-nothing, Choices-counted}
+use Rattle.layer.specs.Promises.{Logs-tell-nothing, Layer-tells-nothing, Sbox-layer-tells-nothing, Layer-calls-tell-nothing}
+use Rattle.layer.specs.Promises.{Layer-choices-accepted, Layer-calls-counted, Choices-counted}
 use Rattle.layer.proofs.Alike.{calls-alike}
+use Rattle.layer.proofs.Lent.{call-accepted, calls-counted}
 
 -- any entry is fit to be asked for
 pub logs-tell-nothing : (calls : ℕ) → Logs-tell-nothing calls
@@ -43,6 +45,16 @@ layer-calls-tell-nothing table scratch lent n m x y a b i j u v accepted hx hy =
     calls-alike n m (λ e. e < log-length 2 n) (λ k case. logged-log case table (scratch k) (lent k)) 16 x y
     (λ k l i j u v. call-tells-nothing table (scratch k) (lent k) 2 n m (x k) (y k) i j u v accepted (inl refl) (hx k l) (hy k l))
     a b i j u v
+
+pub layer-choices-accepted : Layer-choices-accepted
+unfolding Layer-choices-accepted
+layer-choices-accepted table scratch lent n m x choice k accepted inputs fit =
+    call-accepted table scratch lent 16 n m x accepted inputs fit choice k
+
+pub layer-calls-counted : Layer-calls-counted
+unfolding Layer-calls-counted
+layer-calls-counted table scratch lent n m x a b i j u v accepted inputs fit ha hb hi hj =
+    calls-counted table scratch lent 16 n m x accepted inputs fit a b i j u v ha hb hi hj
 
 pub choices-counted : Choices-counted
 unfolding Choices-counted layer-widths mask-widths method-of found total

@@ -1,19 +1,27 @@
 -- A layer: several logged calls under method 2 on one table, each with masks of its own. The count: over all choices of all masks, how many
 -- put two given values at two given entries, of one call's log or of two calls'.
-use mathlib.Core.Bool.{cond, _&&_}
+use mathlib.Core.Path.{_≡_}
+use mathlib.Core.Bool.{false, cond, _&&_}
 use mathlib.Core.List.{List, flatten}
-use Prim.Native.Nat.{ℕ, _+_, _*_, _^_, _<_}
+use Prim.Native.Nat.{ℕ, _+_, _*_, _^_, _≤_, _<_}
 use lib.Dec.{eqb}
-use lib.ListN.{replicate}
+use lib.ListN.{length, replicate}
 use Rattle.counting.specs.Choice.{over}
 use Rattle.lookup.specs.declared.Case.{Case}
-use Rattle.lookup.specs.Call.{log-of}
+use Rattle.lookup.specs.Call.{log-of, log-length, scratch-length}
+use Rattle.lookup.specs.Refusals.{dirty}
 use Rattle.calls.specs.Reply.{logged-log}
 use Rattle.secrecy.specs.Count.{Mask-places, chosen-case, mask-widths, value-at}
 
 -- each call's input has the table's width
 abbrev pub Inputs-fit : (calls n : ℕ) → (state : ℕ → ℕ) → Type 0
 Inputs-fit calls n x = (k : ℕ) → k < calls → x k < 2 ^ n
+
+-- each call is lent scratch and a log that are long enough, and the scratch is clean
+abbrev pub Lent-fit : (calls n : ℕ) → (scratch lent : (call : ℕ) → List ℕ) → Type 0
+Lent-fit calls n scratch lent =
+    (k : ℕ) → k < calls → (scratch-length 2 n ≤ length (scratch k)) × (dirty (scratch-length 2 n) (scratch k) ≡ false)
+    × (log-length 2 n ≤ length (lent k))
 
 -- the widths of all masks: a single call's, once for each call
 unfoldable pub layer-widths : (calls n m : ℕ) → List ℕ

@@ -1,15 +1,16 @@
--- What two entries of a layer's logs tell: nothing. Each statement is a type; the proofs stand in proofs/Promises.antt and
--- proofs/Counts.antt.
+-- What two entries of a layer's logs tell: nothing; and that these are the logs that the calls leave. Each statement is a type; the proofs
+-- stand in proofs/Promises.antt and proofs/Counts.antt.
 use mathlib.Core.Path.{_≡_}
 use mathlib.Core.Bool.{true}
 use mathlib.Core.List.{List, [], _∷_}
 use Prim.Native.Nat.{ℕ, _+_, _*_, _^_, _<_}
-use Rattle.counting.specs.Choice.{over}
+use Rattle.counting.specs.Choice.{over, Within}
 use Rattle.table.specs.Balanced.{balanced}
 use Rattle.table.specs.Refusals.{table-refusal}
 use Rattle.sbox.specs.Sbox.{sbox}
 use Rattle.lookup.specs.Call.{log-length}
-use Rattle.layer.specs.Layer.{Inputs-fit, layer-widths, layer-count, layer-call-count}
+use Rattle.lookup.specs.Refusals.{logged-refusal}
+use Rattle.layer.specs.Layer.{Inputs-fit, Lent-fit, layer-widths, call-case, layer-count, layer-call-count}
 
 -- for every balanced table, so many calls, any two entries, of one call's log or of two calls', any two values and any two states:
 -- as many choices of all masks put those values there for the one state as for the other
@@ -34,6 +35,20 @@ Layer-calls-tell-nothing =
     (table : List ℕ) (scratch lent : ℕ → List ℕ) (n m : ℕ) (x y : ℕ → ℕ) (a b i j u v : ℕ) → table-refusal n m table ≡ 0 →
     Inputs-fit 16 n x → Inputs-fit 16 n y → a < 16 → b < 16 → i < log-length 2 n → j < log-length 2 n →
     layer-call-count table scratch lent 16 n m x a b i j u v ≡ layer-call-count table scratch lent 16 n m y a b i j u v
+
+-- where the table is accepted, scratch and logs are long enough and the scratch is clean, no call is refused, whatever masks are chosen
+unfoldable pub Layer-choices-accepted : Type 0
+Layer-choices-accepted =
+    (table : List ℕ) (scratch lent : ℕ → List ℕ) (n m : ℕ) (x choice : ℕ → ℕ) (k : ℕ) → table-refusal n m table ≡ 0 → Inputs-fit 16 n x →
+    Lent-fit 16 n scratch lent → Within (layer-widths 16 n m) choice → k < 16 →
+    logged-refusal (call-case n m x choice k) table (scratch k) (lent k) ≡ 0
+
+-- and the count of the logs that the calls leave is the count of those that the documents lay out
+unfoldable pub Layer-calls-counted : Type 0
+Layer-calls-counted =
+    (table : List ℕ) (scratch lent : ℕ → List ℕ) (n m : ℕ) (x : ℕ → ℕ) (a b i j u v : ℕ) → table-refusal n m table ≡ 0 → Inputs-fit 16 n x →
+    Lent-fit 16 n scratch lent → a < 16 → b < 16 → i < log-length 2 n → j < log-length 2 n →
+    layer-call-count table scratch lent 16 n m x a b i j u v ≡ layer-count table 16 n m x a b i j u v
 
 -- how many choices there are: 2^(3n + 2m) for each call
 unfoldable pub Choices-counted : Type 0
