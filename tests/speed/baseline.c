@@ -1,13 +1,12 @@
 // The calls in C, as a careful engineer would write them without proofs: see baseline.h. Compiled twice, the second time with -DGUARDED.
 #include "baseline.h"
+#include "barrier.h"
 #include <string.h>
 
 #ifdef GUARDED
 #define NAME(name) guarded_##name
-#define BARRIER(value) __asm__ volatile("" : "+r"(value))
 #else
 #define NAME(name) baseline_##name
-#define BARRIER(value) (void)0
 #endif
 
 static unsigned table_refusal(uint32_t n, uint32_t m, const uint8_t *table, size_t length) {

@@ -1,13 +1,12 @@
 // Runs one kind of call many times, for callgrind to count, or times all kinds beside each other.
 // speed KIND METHOD WIDTH TIMES   KIND: one of the kinds of call(), or none
 // speed time                      a table of nanoseconds a call, at n = m = 8
-#define _POSIX_C_SOURCE 199309L
 #include "baseline.h"
+#include "stopwatch.h"
 #include <cippazhey.h>
 #include <stdio.h>
 #include <stdlib.h>
 #include <string.h>
-#include <time.h>
 
 uint32_t cippazhey_logged_call(uint32_t method, uint32_t n, uint32_t m, uint32_t x0, uint32_t r1, uint32_t r2, uint32_t s1,
                                uint32_t s2, uint32_t r3, uint32_t b, const uint8_t *table, size_t table_length,
@@ -54,11 +53,9 @@ static void run(const char *kind, uint32_t method, uint32_t n, long times) {
 }
 
 static double nanoseconds(const char *kind, uint32_t method) {
-    struct timespec from, to;
-    clock_gettime(CLOCK_MONOTONIC, &from);
+    double from = nanoseconds_now();
     run(kind, method, 8, CALLS);
-    clock_gettime(CLOCK_MONOTONIC, &to);
-    return ((to.tv_sec - from.tv_sec) * 1e9 + (double)(to.tv_nsec - from.tv_nsec)) / CALLS;
+    return (nanoseconds_now() - from) / CALLS;
 }
 
 // The best time of each kind under each method. Every round times all of them, so that other work on the machine slows none alone.
