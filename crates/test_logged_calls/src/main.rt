@@ -6,40 +6,15 @@
 use lookup::Called;
 use lookup::Case;
 
-fn wide(byte: u8) -> u32 {
-    byte as u32
-}
-
-fn wide_entry(entry: u16) -> u32 {
+fn wide(entry: u16) -> u32 {
     entry as u32
-}
-
-// Takes one value of a buffer: prints it where the buffer is printed whole, and hands back the checksum with it in.
-// The checksum depends on every value and on their order.
-fn take(whole: bool, checksum: u32, value: u32) -> u32 {
-    if whole {
-        test_records::print_next(value);
-    }
-    (checksum % 65521 * 31 + value % 65536) % 65521
-}
-
-fn print_bytes(whole: bool, bytes: &[u8]) {
-    let mut checksum = 1;
-    let mut at = 0;
-    while at < bytes.len() {
-        checksum = take(whole, checksum, wide(bytes[at]));
-        at += 1;
-    }
-    if !whole {
-        test_records::print_next(checksum);
-    }
 }
 
 fn print_entries(whole: bool, entries: &[u16]) {
     let mut checksum = 1;
     let mut at = 0;
     while at < entries.len() {
-        checksum = take(whole, checksum, wide_entry(entries[at]));
+        checksum = test_records::take(whole, checksum, wide(entries[at]));
         at += 1;
     }
     if !whole {
@@ -66,7 +41,7 @@ fn print_line(called: Called, whole: bool, scratch: &[u8], log: &[u16]) {
     test_records::print_first(called.refusal);
     test_records::print_next(called.share);
     test_records::print_next(called.count);
-    print_bytes(whole, scratch);
+    test_records::print_bytes(whole, scratch);
     print_entries(whole, log);
     test_records::end_line();
 }

@@ -1,4 +1,4 @@
-// Files of test cases: their records one after the other, the numbers in a record, and numbers printed on a line.
+// Files of test cases: their records one after the other, the numbers in a record, and numbers and buffers printed on a line.
 ghost use mathlib.Core.Path.{_≡_};
 ghost use Prim.Native.Nat.{_≤_, _<_, min};
 ghost use lib.ListN.{getD, take, drop};
@@ -89,4 +89,30 @@ pub fn print_next(number: u32) {
 
 pub fn end_line() {
     io::write_all(STDOUT_FILENO, b"\n");
+}
+
+fn wide(byte: u8) -> u32 {
+    byte as u32
+}
+
+// Takes one value of a buffer: prints it where the buffer is printed whole, and hands back the checksum with it in.
+// The checksum depends on every value and on their order.
+pub fn take(whole: bool, checksum: u32, value: u32) -> u32 {
+    if whole {
+        print_next(value);
+    }
+    (checksum % 65521 * 31 + value % 65536) % 65521
+}
+
+// Prints a buffer whole, or its checksum.
+pub fn print_bytes(whole: bool, bytes: &[u8]) {
+    let mut checksum = 1;
+    let mut at = 0;
+    while at < bytes.len() {
+        checksum = take(whole, checksum, wide(bytes[at]));
+        at += 1;
+    }
+    if !whole {
+        print_next(checksum);
+    }
 }

@@ -1,9 +1,9 @@
--- `test_logged_calls::print_bytes` is safe and ends: the place stays within the slice, and the measure is the number of values that are left.
+-- `test_records::print_bytes` is safe and ends: the place stays within the slice, and the measure is the number of values that are left.
 use Prim.Native.Nat.{_-_, _≤_}
 use lib.ListN.{length}
 use borrow.Author.Needs.{needs}
-use Rattle.test_logged_calls.proofs.print_bytes.Statement.{statement}
-use Rattle.test_logged_calls.proofs.print_bytes.Tie as tie
+use Rattle.test_records.proofs.print_bytes.Statement.{statement}
+use Rattle.test_records.proofs.print_bytes.Tie as tie
 
 abbrev Inv-loop : tie.InvT-loop
 Inv-loop whole bytes checksum₀ at₀ checksum at = at ≤ length bytes
