@@ -6,6 +6,7 @@ import tempfile
 from pathlib import Path
 
 import document
+import frame_records
 import logged_cases
 import model
 import sbox
@@ -34,6 +35,7 @@ def made_files():
     return {
         **program_files("test_small_calls", small_cases),
         **program_files("test_logged_calls", logged_cases),
+        **program_files("test_frames", frame_records),
         **sheet_files(),
         "bench/stdin": document.SAMPLE_INPUT,
         "bench/stdout": model.bench(document.SAMPLE_INPUT),

@@ -1,0 +1,28 @@
+-- `test_frames::soil` is safe and ends: the buffer keeps its length, and the measure is the number of places that are left.
+use mathlib.Core.Path.{_≡_}
+use Prim.Native.Nat.{_-_}
+use lib.ListN.{length}
+use borrow.Author.Needs.{needs}
+use Rattle.test_frames.proofs.soil.Statement.{statement}
+use Rattle.test_frames.proofs.soil.Tie as tie
+
+abbrev Inv-loop : tie.InvT-loop
+Inv-loop buffer₀ first step next₀ at₀ buffer next at = length buffer ≡ length buffer₀
+
+abbrev μ-loop : tie.MeasureT-loop
+μ-loop buffer₀ first step next₀ at₀ buffer next at = length buffer₀ - at
+
+pub soil-spec : {M : Type 1} → statement M
+soil-spec =
+    tie.close
+    (tie.spec
+    Inv-loop
+    μ-loop
+    (λ c. search needs)
+    (λ c. search needs)
+    (λ c κs. tt)
+    (λ c. search needs)
+    (λ c. search needs)
+    (λ c. search needs)
+    (λ c. search needs)
+    (λ c. tt))
