@@ -12,7 +12,7 @@
 #include <stdlib.h>
 #include <string.h>
 
-enum { SILENT = 0, LEAKS = 1, UNKNOWN = 2, WRONG_USAGE = 3, LONGEST = 256, RANDOM_INPUTS = 4, RANDOM_CHOICES = 24 };
+enum { SILENT = 0, LEAKS = 1, UNKNOWN = 2, WRONG_USAGE = 3, LONGEST = 256, MOST_STEPS = 1 << 16, RANDOM_INPUTS = 4, RANDOM_CHOICES = 24 };
 
 static uint8_t table[LONGEST], scratch[LONGEST];
 static uint16_t entries[2400];
@@ -79,7 +79,7 @@ static int carry_out(const struct study *study, struct trace *trace) {
     bool known = true;
     printf("%s, method %u, n = %u, m = %u, %s%s\n", subject->name, study->widths.method, study->widths.n, study->widths.m, study->name,
            subject->flags & CLEARS ? ", clearing used scratch" : subject->flags & USED ? ", on used scratch" : "");
-    start_trace(trace, study->division);
+    start_trace(trace, study->division, MOST_STEPS);
     for (size_t call = 0; call < calls && known; call++) {
         starts[call] = trace->count;
         known = one_call(trace, study->widths, study->input(call / study->each), study->choice(study->widths, call % study->each));

@@ -6,7 +6,7 @@
 #include <stddef.h>
 #include <stdint.h>
 
-enum { REGISTER_ARGUMENTS = 6, STACK_ARGUMENTS = 10, ARGUMENTS = REGISTER_ARGUMENTS + STACK_ARGUMENTS, BUFFERS = 3 };
+enum { REGISTER_ARGUMENTS = 6, STACK_ARGUMENTS = 10, ARGUMENTS = REGISTER_ARGUMENTS + STACK_ARGUMENTS, BUFFERS = 9 };
 
 // How many bytes make one probe: of a general register, the flags or an address, and of a vector register or of what is read or
 // written at once. More than 8 are kept as the number of their content.
@@ -36,13 +36,14 @@ struct change {
 // What was written down of all calls so far: their changes behind each other, and the address of each step's instruction.
 struct trace {
     struct division division;
+    size_t most_steps; // of one call
     struct change *changes;
     size_t count, room;
     uintptr_t *addresses;
     size_t steps;
 };
 
-void start_trace(struct trace *trace, struct division division);
+void start_trace(struct trace *trace, struct division division, size_t most_steps);
 void end_trace(struct trace *trace);
 
 // Makes the call and adds its changes to the trace. Returns NULL, or why it cannot be judged: it takes another way than the first call of
@@ -55,5 +56,8 @@ void name_place(uint32_t place, char name[NAME_LENGTH]);
 
 // How many places there are: each is below this.
 enum { PLACES = 720 };
+
+// Where the value begins that a place is a byte of, and how many bytes it has: a register, or what is read or written at once.
+uint32_t value_at(uint32_t place, uint32_t *bytes);
 
 #endif
