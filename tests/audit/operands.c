@@ -13,8 +13,8 @@ bool read_operands(const char *path) {
     struct operand next;
     size_t room = 0;
     if (!table) return false;
-    while (fscanf(table, "%" SCNxPTR " %c %zu %d %d %" SCNu64 " %" SCNd64, &next.instruction, &next.access, &next.width, &next.base,
-                  &next.index, &next.scale, &next.displacement) == 7) {
+    while (fscanf(table, "%" SCNxPTR " %d %c %" SCNxPTR " %c %zu %d %d %" SCNu64 " %" SCNd64, &next.instruction, &next.length, &next.way,
+                  &next.place, &next.access, &next.width, &next.base, &next.index, &next.scale, &next.displacement) == 10) {
         if (count && next.instruction < operands[count - 1].instruction) break;
         if (count + 1 >= room) operands = realloc(operands, (room = 2 * room + 1024) * sizeof *operands);
         if (!operands) abort();

@@ -1,8 +1,9 @@
 # Lists where the instructions of a program read and write memory, from objdump's listing of it.
 # Run: objdump -d -M intel --no-show-raw-insn PROGRAM | python3 tests/audit/operands.py > TABLE
 #
-# A line of the table has the instruction's address, r (it reads), w (it writes) or - (neither), and the operand: its width in bytes,
-# base, index, scale and displacement. A register is its place in GENERAL, -1 is none. An instruction that reads and writes has two lines.
+# A line of the table has the instruction's address and length, how it goes on and where to (WAYS), r (it reads), w (it writes) or -
+# (neither), and the operand: its width in bytes, base, index, scale and displacement. A register is its place in GENERAL, -1 is none. An
+# instruction that reads and writes has two lines.
 # An instruction that is not known has none, and the audit ends where one would run: it names a register that is not watched, or takes
 # memory in a way that is not written down here. One that writes memory without naming it is found out when memory changes.
 import re
@@ -35,6 +36,12 @@ ON_STACK = {
 }
 WITHOUT_OPERANDS = "ret leave cbw cwde cdqe cwd cdq cqo endbr64 vzeroupper vzeroall".split()
 WITHOUT_ACCESS = "lea nop".split()
+
+# How an instruction goes on: n to the next; m to the next, and it names a place by its distance; j it jumps, b it branches, c it calls, r it
+# returns; x otherwise.
+PLACE = re.compile(r"([0-9a-f]+) <.+>")
+WAYS = {"jmp": "j", "call": "c"}
+LONGEST = 15
 
 
 def in_memory(text, target):
@@ -78,12 +85,24 @@ def accesses(mnemonic, operands, target):
     return found if kinds.count("r") < 2 and kinds.count("w") < 2 else None
 
 
-for line in sys.stdin:
-    parts = LINE.fullmatch(line.rstrip())
-    if not parts:
-        continue
-    address, _, mnemonic, operands, target = parts.groups()
+def way(mnemonic, operands, target):
+    """How an instruction goes on, and the place that it names: where to, or what is there."""
+    place = PLACE.fullmatch(operands)
+    if place:
+        return WAYS.get(mnemonic, "b" if mnemonic.startswith("j") else "x"), place[1]
+    if mnemonic == "ret":
+        return "x" if operands else "r", "0"
+    if mnemonic in WAYS:
+        return "x", "0"
+    return ("m", target) if target else ("n", "0")
+
+
+listed = [match.groups() for match in (LINE.fullmatch(line.rstrip()) for line in sys.stdin) if match]
+ends = [int(groups[0], 16) for groups in listed[1:]] + [0]
+for (address, _, mnemonic, operands, target), end in zip(listed, ends):
     known = accesses(mnemonic, operands.split(",") if operands else [], target)
+    length = end - int(address, 16)
+    goes_on = way(mnemonic, operands, target) if 0 < length <= LONGEST else ("x", "0")
     if known is not None:
         for kind, numbers in known or [("-", (0, NONE, NONE, 1, 0))]:
-            print(address, kind, *numbers)
+            print(address, length, *goes_on, kind, *numbers)

@@ -67,12 +67,17 @@ static void note(size_t place, size_t size, const uint8_t *content) {
     watched->changes[watched->count++] = (struct change){(uint32_t)step, (uint32_t)place, value};
 }
 
+// Most pieces are one byte, and most calls of memcmp can be saved.
+static bool differ(const uint8_t *one, const uint8_t *other, size_t length) {
+    return *one != *other || (length > 1 && memcmp(one, other, length));
+}
+
 // Notes each piece of a region that is not what it was; at entry all.
 static void compare(enum part part, size_t place, const void *content, size_t length, size_t piece) {
     const uint8_t *bytes = content;
     if (!watches(part) || (!at_entry && !memcmp(image + place, bytes, length))) return;
     for (size_t at = 0; at < length; at += piece)
-        if (at_entry || memcmp(image + place + at, bytes + at, piece)) note(place + at, piece, bytes + at);
+        if (at_entry || differ(image + place + at, bytes + at, piece)) note(place + at, piece, bytes + at);
     memcpy(image + place, bytes, length);
 }
 
@@ -83,19 +88,26 @@ static void compare_memory(enum part part, size_t place, uintptr_t address, size
 }
 
 static void compare_vectors(const struct state *state) {
-    uint8_t vectors[VECTOR_REGISTERS][WIDEST];
-    memcpy(vectors, state->vectors, sizeof vectors);
-    for (int i = 0; i < VECTOR_REGISTERS && !watches(UPPER_HALVES_PART); i++) memset(vectors[i] + HALF, 0, HALF);
-    compare(VECTORS_PART, VECTORS, vectors, sizeof vectors, watched->division.vector);
+    static struct state lower; // whose upper halves stay 0
+    if (!watches(UPPER_HALVES_PART)) {
+        for (int i = 0; i < VECTOR_REGISTERS; i++) memcpy(lower.vectors[i], state->vectors[i], HALF);
+        state = &lower;
+    }
+    compare(VECTORS_PART, VECTORS, state->vectors, sizeof state->vectors, watched->division.vector);
 }
 
-// What changes in memory must lie where the instruction is known to write.
+// What changes in memory must lie where the instruction is known to write: nothing in front of that or behind it.
 static void check_store(const char *name, const uint8_t *bytes, uint8_t *before, size_t length) {
-    if (!length || !memcmp(before, bytes, length)) return;
-    for (size_t i = 0; i < length; i++)
-        if (before[i] != bytes[i] && (uintptr_t)(bytes + i) - store.from >= store.length && watches(STORES_PART))
+    uintptr_t first = (uintptr_t)bytes, last = first + length, from = store.from, to = from + store.length;
+    if (from < first) from = first;
+    if (to > last) to = last;
+    if (from >= to) from = to = first;
+    if (memcmp(before, bytes, from - first) || memcmp(before + (to - first), bytes + (to - first), last - to)) {
+        memcpy(before, bytes, length);
+        if (watches(STORES_PART))
             snprintf(trouble, sizeof trouble, "%#lx writes to the %s, and is not known to", (unsigned long)last_address, name);
-    memcpy(before, bytes, length);
+    }
+    memcpy(before + (from - first), bytes + (from - first), to - from);
 }
 
 // What the instruction that has run has left behind.
@@ -107,7 +119,8 @@ static void note_effects(const struct state *state) {
     compare_vectors(state);
     if (store.length) compare_memory(WRITES_PART, WRITTEN, store.from, store.length);
     check_store("stack", call_stack, stack_before, STACK_ROOM);
-    for (int i = 0; i < BUFFERS; i++) check_store(current->lent[i].name, current->lent[i].bytes, lent_before[i], current->lent[i].length);
+    for (int i = 0; i < BUFFERS && current->lent[i].length; i++)
+        check_store(current->lent[i].name, current->lent[i].bytes, lent_before[i], current->lent[i].length);
 }
 
 void give_up(uintptr_t instruction, const char *why) {
@@ -172,9 +185,9 @@ void *start_watching(struct trace *trace, const struct call *call) {
     memcpy(stack_arguments, call->arguments + REGISTER_ARGUMENTS, STACK_ARGUMENTS * sizeof *stack_arguments);
     stack_arguments[-1] = (uintptr_t)audit_back;
     memcpy(stack_before, call_stack, STACK_ROOM);
-    for (int i = 0; i < BUFFERS; i++) {
+    for (int i = 0; i < BUFFERS && call->lent[i].length; i++) {
         if (call->lent[i].length > LONGEST_BUFFER) abort();
-        if (call->lent[i].length) memcpy(lent_before[i], call->lent[i].bytes, call->lent[i].length);
+        memcpy(lent_before[i], call->lent[i].bytes, call->lent[i].length);
     }
     watched = trace;
     current = call;
