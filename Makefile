@@ -32,10 +32,10 @@ sbox:
 	@rt check sbox_print > target/sbox.log 2>&1 || { cat target/sbox.log; exit 1; }
 	@target/bin/sbox_print
 
-# what the machine code does with the masks, an instruction at a time: half a minute to two minutes; x86-64 Linux only
+# what the machine code does with the masks, an instruction at a time, the frame with three times the gate's keys; x86-64 Linux only
 audit: lib
 	@rt staticlib test_logged_export > target/logged.log 2>&1 || { cat target/logged.log; exit 1; }
-	@tests/audit/run && cat target/audit/plain_2.log target/audit/plain_3.log
+	@tests/audit/run 9 && cat target/audit/plain_2.log target/audit/plain_3.log target/audit/frame.log
 
 # the tables of docs/PERFORMANCE.md; needs valgrind
 speed:

@@ -1,7 +1,10 @@
 // Audits the machine code of one call: `audit OPERANDS SUBJECT METHOD [exhaustive | linear] [without PART]`. Exhaustive at small widths, then
-// linear at n = m = 8, or one of both. OPERANDS is the table that operands.py makes of this program's listing.
+// linear at n = m = 8, or one of both. Or of a whole frame, linear: `audit OPERANDS FRAME keys COUNT [without PART]`. OPERANDS is the table that
+// operands.py makes of this program's listing.
 // It exits with 0 where nothing leaks, with 1 where something does, with 2 where it can't tell, and says why: a wrong answer, control flow
 // that depends on the numbers, an instruction that is not known, code at n = m = 8 that no small width runs. 3 is for wrong usage.
+#include "columns.h"
+#include "frame.h"
 #include "operands.h"
 #include "parts.h"
 #include "probes.h"
@@ -12,7 +15,7 @@
 #include <stdlib.h>
 #include <string.h>
 
-enum { SILENT = 0, LEAKS = 1, UNKNOWN = 2, WRONG_USAGE = 3, LONGEST = 256, MOST_STEPS = 1 << 16, RANDOM_INPUTS = 4, RANDOM_CHOICES = 24 };
+enum { LONGEST = 256, MOST_STEPS = 1 << 16, RANDOM_INPUTS = 4, RANDOM_CHOICES = 24 };
 
 static uint8_t table[LONGEST], scratch[LONGEST];
 static uint16_t entries[2400];
@@ -208,21 +211,31 @@ static int audit(uint32_t method, bool small, bool large) {
     return large && found == SILENT ? linear(method, small && !(subject->flags & BY_WIDTH)) : found;
 }
 
+// Leaves out a part, if the words that are left ask for it. False where they say anything else.
+static bool take_part(int count, char **words) {
+    if (count == 0) return true;
+    if (count != 2 || strcmp(words[0], "without") || !leave_out(words[1])) return false;
+    printf("without %s:\n", words[1]);
+    return true;
+}
+
 int main(int count, char **words) {
-    bool small = true, large = true, known = count >= 4;
-    uint32_t method = known ? (uint32_t)atoi(words[3]) : 0;
-    int next = 4;
-    if (next < count && !strcmp(words[next], "exhaustive")) large = false, next++;
-    if (next < count && !strcmp(words[next], "linear") && large) small = false, next++;
-    if (next + 1 < count && !strcmp(words[next], "without")) {
-        known = known && leave_out(words[next + 1]);
-        printf("without %s:\n", words[next + 1]);
-        next += 2;
+    bool small = true, large = true;
+    if (count >= 5 && !strcmp(words[3], "keys")) {
+        const struct frame *frame = frame_named(words[2]);
+        int keys = atoi(words[4]);
+        if (frame && keys > 1 && keys <= MOST_INPUTS && take_part(count - 5, words + 5) && read_operands(words[1]))
+            return audit_frame(frame, (size_t)keys);
+    } else if (count >= 4) {
+        uint32_t method = (uint32_t)atoi(words[3]);
+        int next = 4;
+        if (next < count && !strcmp(words[next], "exhaustive")) large = false, next++;
+        if (next < count && !strcmp(words[next], "linear") && large) small = false, next++;
+        subject = subject_named(words[2]);
+        if (subject && method >= 2 && method <= 3 && take_part(count - next, words + next) && read_operands(words[1]))
+            return audit(method, small, large);
     }
-    subject = known ? subject_named(words[2]) : NULL;
-    if (!subject || next != count || method < 2 || method > 3 || !read_operands(words[1])) {
-        fprintf(stderr, "usage: audit OPERANDS SUBJECT METHOD [exhaustive | linear] [without PART]\n");
-        return WRONG_USAGE;
-    }
-    return audit(method, small, large);
+    fprintf(stderr, "usage: audit OPERANDS SUBJECT METHOD [exhaustive | linear] [without PART]\n"
+                    "       audit OPERANDS FRAME keys COUNT [without PART]\n");
+    return WRONG_USAGE;
 }

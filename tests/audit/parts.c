@@ -24,6 +24,11 @@ bool leave_out(const char *name) {
         [INSTRUCTIONS_PART] = "instructions",
         [STORES_PART] = "stores",
         [WIDTHS_PART] = "widths",
+        [ALONE_PART] = "alone",
+        [TWOS_PART] = "twos",
+        [BITS_PART] = "bits",
+        [BESIDE_PART] = "beside",
+        [COPIES_PART] = "copies",
     };
     for (int part = NO_PART + 1; part < PARTS; part++)
         if (!strcmp(names[part], name)) left_out = (enum part)part;

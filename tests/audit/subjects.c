@@ -27,11 +27,26 @@
     each(depth, 1)          \
     each(vector_store, 2)
 
+// Those of frame_controls.s.
+#define FRAME_CONTROLS(each) \
+    each(alone)              \
+    each(twos)               \
+    each(bits)               \
+    each(beside)             \
+    each(beside_vector)      \
+    each(beside_both)        \
+    each(flow)               \
+    each(answers)            \
+    each(copies)
+
 // Only their addresses are used: the arguments are laid out by hand.
 #define DECLARATION(name, cases) void control_##name(void);
 #define ROW(name, cases) {#name, control_##name, 0, cases, CONTROL},
+#define FRAME_DECLARATION(name) void frame_control_##name(void);
+#define FRAME_ROW(name) {"frame_" #name, frame_control_##name, 0},
 
 CONTROLS(DECLARATION)
+FRAME_CONTROLS(FRAME_DECLARATION)
 void control_joined_leftovers(void);
 void control_single_leftovers(void);
 void control_early_exit(void);
@@ -40,6 +55,12 @@ void control_short_clear(void);
 void cippazhey_plain_call(void);
 void cippazhey_clear(void);
 void cippazhey_logged_call(void);
+void cippazhey_encrypt_frame(void);
+void guarded_frame(void);
+void unguarded_frame(void);
+void joined_frame(void);
+void beside_frame(void);
+void frame_stand_in(void);
 void guarded_plain_call(void);
 void guarded_bare_call(void);
 void baseline_plain_call(void);
@@ -62,5 +83,18 @@ const struct subject *subject_named(const char *name) {
         CONTROLS(ROW)};
     for (size_t i = 0; i < sizeof subjects / sizeof *subjects; i++)
         if (!strcmp(subjects[i].name, name)) return &subjects[i];
+    return NULL;
+}
+
+const struct frame *frame_named(const char *name) {
+    static const struct frame frames[] = {{"frame", cippazhey_encrypt_frame, 10},
+                                          {"guarded_frame", guarded_frame, 3},
+                                          {"unguarded_frame", unguarded_frame, 3},
+                                          {"joined_frame", joined_frame, 3},
+                                          {"beside_frame", beside_frame, 3},
+                                          {"frame_stand_in", frame_stand_in, 0},
+                                          FRAME_CONTROLS(FRAME_ROW)};
+    for (size_t i = 0; i < sizeof frames / sizeof *frames; i++)
+        if (!strcmp(frames[i].name, name)) return &frames[i];
     return NULL;
 }

@@ -17,7 +17,15 @@ struct subject {
     unsigned flags;
 };
 
+// A frame, or a control that takes a frame's arguments.
+struct frame {
+    const char *name;
+    void (*code)(void);
+    unsigned rounds; // of AES
+};
+
 // NULL where there is none
 const struct subject *subject_named(const char *name);
+const struct frame *frame_named(const char *name);
 
 #endif
