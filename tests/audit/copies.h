@@ -5,7 +5,12 @@
 
 #include "step.h"
 
-// As step_through. It cannot judge a call either that comes to an instruction which cannot be copied.
-const char *run_copies(struct trace *trace, const struct call *call, uint64_t *result);
+#include <stdbool.h>
+
+// It cannot judge a call either that comes to an instruction which cannot be copied.
+runner run_copies;
+
+// Whether a call noted the same twice, the second time from this change on; takes the second time out of the trace.
+bool noted_again(struct trace *trace, size_t second);
 
 #endif

@@ -48,8 +48,6 @@ static bool right_answer(unsigned rounds, const uint8_t key[BLOCK], uint64_t res
     return (uint32_t)result == 0 && !memcmp(joined, expected, BLOCK) && !memcmp(scratch, zeros, SCRATCH);
 }
 
-typedef const char *runner(struct trace *trace, const struct call *call, uint64_t *result);
-
 // Makes one call; NULL, or why it cannot be judged.
 static const char *one_call(runner *run, struct trace *trace, const struct frame *frame, const uint8_t key[BLOCK]) {
     struct call call = {frame->code,
@@ -79,10 +77,7 @@ static const char *first_call(struct trace *trace, const struct frame *frame, co
     size_t count = trace->count;
     if (!trouble) trouble = one_call(run_copies, trace, frame, key);
     if (trouble) return trouble;
-    if (watches(COPIES_PART) && (trace->count != 2 * count || memcmp(trace->changes, trace->changes + count, count * sizeof *trace->changes)))
-        return "copied instructions do otherwise";
-    trace->count = count;
-    return NULL;
+    return noted_again(trace, count) || !watches(COPIES_PART) ? NULL : "copied instructions do otherwise";
 }
 
 // Makes all calls; whether they can be judged.

@@ -48,7 +48,9 @@ void end_trace(struct trace *trace);
 
 // Makes the call and adds its changes to the trace. Returns NULL, or why it cannot be judged: it takes another way than the first call of
 // the trace, runs too long, takes too much stack, comes to an instruction that is not known, or one writes where it is not known to.
-const char *step_through(struct trace *trace, const struct call *call, uint64_t *result);
+typedef const char *runner(struct trace *trace, const struct call *call, uint64_t *result);
+
+runner step_through;
 
 // Writes a place's name, as "rax", "ymm3" or "read".
 enum { NAME_LENGTH = 24 };
