@@ -4,6 +4,7 @@
 // It exits with 0 where nothing leaks, with 1 where something does, with 2 where it can't tell, and says why: a wrong answer, control flow
 // that depends on the numbers, an instruction that is not known, code at n = m = 8 that no small width runs. 3 is for wrong usage.
 #include "columns.h"
+#include "copies.h"
 #include "frame.h"
 #include "operands.h"
 #include "parts.h"
@@ -58,8 +59,8 @@ static bool right_answer(uint32_t share, uint32_t result, size_t length) {
     return result == (subject->flags & USED ? 19 * 256 : share);
 }
 
-// Steps through one call; whether it can be judged and its answer is right.
-static bool one_call(struct trace *trace, struct widths w, uint32_t x, struct choice c) {
+// Makes one call; whether it can be judged and its answer is right.
+static bool one_call(runner *run, struct trace *trace, struct widths w, uint32_t x, struct choice c) {
     size_t length = (size_t)1 << w.n, log_length = 10 + (w.method == 2 ? 6 : 9) * length;
     struct call call = {subject->code,
                         {w.method, w.n, w.m, x ^ c.r1 ^ c.r2, c.r1, c.r2, c.s1, c.s2, c.r3, c.b, (uintptr_t)table, length,
@@ -69,7 +70,7 @@ static bool one_call(struct trace *trace, struct widths w, uint32_t x, struct ch
     uint64_t result;
     lend_scratch(w, x, c);
     memset(entries, 0, sizeof entries);
-    const char *trouble = step_through(trace, subject->flags & CLEARS ? &clearing : &call, &result);
+    const char *trouble = run(trace, subject->flags & CLEARS ? &clearing : &call, &result);
     uint32_t answer = subject->flags & LOGGED ? entries[log_length - 1] & 255u : (uint32_t)result & 65535u;
     if (!trouble && !right_answer(table[x] ^ c.s1 ^ c.s2, answer, length) && watches(ANSWERS_PART)) trouble = "wrong answer";
     if (!trouble) return true;
@@ -77,16 +78,31 @@ static bool one_call(struct trace *trace, struct widths w, uint32_t x, struct ch
     return false;
 }
 
+// The first call is stepped through and run by copies too: both must note the same.
+static bool first_call(runner *later, struct trace *trace, struct widths w, uint32_t x, struct choice c) {
+    if (!one_call(step_through, trace, w, x, c)) return false;
+    size_t count = trace->count;
+    if (!one_call(later, trace, w, x, c)) return false;
+    if (noted_again(trace, count)) return true;
+    printf("    copied instructions do otherwise\n");
+    return false;
+}
+
 static int carry_out(const struct study *study, struct trace *trace) {
     size_t calls = study->inputs * study->each, *starts = room(calls, sizeof *starts), leaking = 0;
+    runner *later = watches(INSTRUCTIONS_PART) ? run_copies : step_through; // what is not known can't be copied
     bool known = true;
     printf("%s, method %u, n = %u, m = %u, %s%s\n", subject->name, study->widths.method, study->widths.n, study->widths.m, study->name,
            subject->flags & CLEARS ? ", clearing used scratch" : subject->flags & USED ? ", on used scratch" : "");
     start_trace(trace, study->division, MOST_STEPS);
     for (size_t call = 0; call < calls && known; call++) {
+        uint32_t input = study->input(call / study->each);
+        struct choice choice = study->choice(study->widths, call % study->each);
         starts[call] = trace->count;
-        known = one_call(trace, study->widths, study->input(call / study->each), study->choice(study->widths, call % study->each));
-        if (call == 0 && study->way) known = known && study->way(trace);
+        if (call)
+            known = one_call(later, trace, study->widths, input, choice);
+        else
+            known = first_call(later, trace, study->widths, input, choice) && (!study->way || study->way(trace));
     }
     if (known) {
         struct probes probes = probes_of(trace, starts, calls);
