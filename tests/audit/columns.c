@@ -96,7 +96,10 @@ void add_call(struct columns *columns, struct trace *trace) {
     while (old < old_end || change < end) {
         struct change at = old < old_end ? (struct change){old->step, old->place, 0} : *change;
         if (change < end && by_place(change, &at) <= 0) at = *change++, now[at.place] = (uint8_t)at.value;
-        if (old < old_end && old->step == at.step && old->place == at.place) before[at.place] = *old++;
+        if (old < old_end && old->step == at.step && old->place == at.place)
+            before[at.place] = *old++;
+        else if (columns->calls && !watches(LATER_PART))
+            continue;
         bytes[count] = before[at.place];
         bytes[count].step = at.step, bytes[count].place = at.place;
         add_value(&bytes[count++], now[at.place], number, factor);
@@ -216,8 +219,7 @@ size_t leaking_columns(const struct columns *columns, const uintptr_t *addresses
     while (byte < end) {
         const struct byte *first = byte;
         for (; byte < end && byte->step == first->step; byte++) latest[byte->place] = *byte;
-        for (; first < byte; first++)
-            if (watches(ENTRY_PART) || first->step) take_byte(&seen, latest, first);
+        for (; first < byte; first++) take_byte(&seen, latest, first);
     }
     printf("    %lu bytes at steps, %lu columns that differ; leaking, alone or by twos: %lu\n", (unsigned long)columns->count,
            (unsigned long)seen.count, (unsigned long)seen.leaking);

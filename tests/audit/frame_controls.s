@@ -99,6 +99,27 @@ control bits
     xor %r9d, %eax
     go_on
 
+# A bit of the second share and one of the third, both with the same random bit added, are joined in xmm0. Where the second of them is 0, that
+# changes nothing; so it is in the first call, and the byte and the random byte are chosen so.
+control later
+    movzbl 5(%rdx), %eax
+    xor (%r8), %al
+    and $1, %eax
+    movd %eax, %xmm0
+    movzbl 5(%rcx), %eax
+    xor (%r8), %al
+    and $1, %eax
+    movd %eax, %xmm1
+    pxor %xmm1, %xmm0
+    go_on
+
+# The random bytes are read sixteen at once, and the two masks of a lookup's output stand beside each other: they leak with its answer. The
+# frame in C does the rest.
+control neighbours
+    movdqu 32(%r8), %xmm0
+    pxor %xmm0, %xmm0
+    jmp guarded_frame
+
 # A jump that depends on the second share, to the same instructions.
 control flow
     testb $1, (%rdx)

@@ -38,7 +38,7 @@ WITHOUT_OPERANDS = "ret leave cbw cwde cdqe cwd cdq cqo endbr64 vzeroupper vzero
 WITHOUT_ACCESS = "lea nop".split()
 
 # How an instruction goes on: n to the next; m to the next, and it names a place by its distance; j it jumps, b it branches, c it calls, r it
-# returns; x otherwise.
+# returns; x otherwise, or it repeats itself.
 PLACE = re.compile(r"([0-9a-f]+) <.+>")
 WAYS = {"jmp": "j", "call": "c"}
 LONGEST = 15
@@ -85,24 +85,24 @@ def accesses(mnemonic, operands, target):
     return found if kinds.count("r") < 2 and kinds.count("w") < 2 else None
 
 
-def way(mnemonic, operands, target):
+def way(prefixes, mnemonic, operands, target):
     """How an instruction goes on, and the place that it names: where to, or what is there."""
     place = PLACE.fullmatch(operands)
     if place:
         return WAYS.get(mnemonic, "b" if mnemonic.startswith("j") else "x"), place[1]
     if mnemonic == "ret":
         return "x" if operands else "r", "0"
-    if mnemonic in WAYS:
+    if mnemonic in WAYS or "rep" in prefixes:
         return "x", "0"
     return ("m", target) if target else ("n", "0")
 
 
 listed = [match.groups() for match in (LINE.fullmatch(line.rstrip()) for line in sys.stdin) if match]
 ends = [int(groups[0], 16) for groups in listed[1:]] + [0]
-for (address, _, mnemonic, operands, target), end in zip(listed, ends):
+for (address, prefixes, mnemonic, operands, target), end in zip(listed, ends):
     known = accesses(mnemonic, operands.split(",") if operands else [], target)
     length = end - int(address, 16)
-    goes_on = way(mnemonic, operands, target) if 0 < length <= LONGEST else ("x", "0")
+    goes_on = way(prefixes, mnemonic, operands, target) if 0 < length <= LONGEST else ("x", "0")
     if known is not None:
         for kind, numbers in known or [("-", (0, NONE, NONE, 1, 0))]:
             print(address, length, *goes_on, kind, *numbers)

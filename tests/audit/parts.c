@@ -28,6 +28,7 @@ bool leave_out(const char *name) {
         [TWOS_PART] = "twos",
         [BITS_PART] = "bits",
         [BESIDE_PART] = "beside",
+        [LATER_PART] = "later",
         [COPIES_PART] = "copies",
     };
     for (int part = NO_PART + 1; part < PARTS; part++)

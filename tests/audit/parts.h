@@ -26,6 +26,7 @@ enum part {
     TWOS_PART,         // and with each other
     BITS_PART,         // a column is a bit, not a byte
     BESIDE_PART,       // two bytes of one value are a column too
+    LATER_PART,        // what the first call leaves as it is and a later one changes
     COPIES_PART,       // copied instructions do what the code does
     PARTS
 };

@@ -35,6 +35,7 @@
     each(beside)             \
     each(beside_vector)      \
     each(beside_both)        \
+    each(later)              \
     each(flow)               \
     each(answers)            \
     each(copies)
@@ -60,6 +61,7 @@ void guarded_frame(void);
 void unguarded_frame(void);
 void joined_frame(void);
 void beside_frame(void);
+void frame_control_neighbours(void);
 void frame_stand_in(void);
 void guarded_plain_call(void);
 void guarded_bare_call(void);
@@ -88,10 +90,11 @@ const struct subject *subject_named(const char *name) {
 
 const struct frame *frame_named(const char *name) {
     static const struct frame frames[] = {{"frame", cippazhey_encrypt_frame, 10},
-                                          {"guarded_frame", guarded_frame, 3},
-                                          {"unguarded_frame", unguarded_frame, 3},
-                                          {"joined_frame", joined_frame, 3},
-                                          {"beside_frame", beside_frame, 3},
+                                          {"guarded_frame", guarded_frame, 2},
+                                          {"unguarded_frame", unguarded_frame, 2},
+                                          {"joined_frame", joined_frame, 2},
+                                          {"beside_frame", beside_frame, 2},
+                                          {"frame_neighbours", frame_control_neighbours, 2},
                                           {"frame_stand_in", frame_stand_in, 0},
                                           FRAME_CONTROLS(FRAME_ROW)};
     for (size_t i = 0; i < sizeof frames / sizeof *frames; i++)

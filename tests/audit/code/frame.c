@@ -1,4 +1,4 @@
-// A frame in C, of three rounds, as a careful engineer would write it without proofs. Compiled with -DFRAME=NAME and one of:
+// A frame in C, of two rounds, as a careful engineer would write it without proofs. Compiled with -DFRAME=NAME and one of:
 //   -DGUARDED           with barriers, so that the compiler keeps exclusive ors apart; the audit must pass it
 //   (nothing)           without; the audit must catch it
 //   -DGUARDED -DJOINED  and in the last round two shares of a byte are joined
@@ -7,7 +7,7 @@
 #include <stdint.h>
 #include <string.h>
 
-enum { BLOCK = 16, SHARES = 3, LAST = 2, TABLE = 256 };
+enum { BLOCK = 16, SHARES = 3, LAST = 1, TABLE = 256 };
 
 #ifdef GUARDED
 #define BARRIER(value) __asm__ volatile("" : "+r"(value))
