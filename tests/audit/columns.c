@@ -1,6 +1,7 @@
 // Columns are not kept: for each bit only a number made of its moves from each input's first choice to the others, and its values at the first
-// choices. Two columns' exclusive or is the same for all choices of each input just if both move alike; then the numbers are equal.
-// Both are exclusive ors over the calls, so those of two bits' exclusive or are the exclusive or of theirs.
+// choices. Two columns' exclusive or is the same for all choices of each input just if both move alike; then the numbers are equal, so no
+// leak is missed, and two that do not move alike have equal numbers once in 2^64. Both are exclusive ors over the calls, so those of two
+// bits' exclusive or are the exclusive or of theirs.
 #include "columns.h"
 #include "parts.h"
 #include "probes.h"
@@ -12,7 +13,7 @@
 
 enum { BITS = 8 };
 
-// A byte of a probe. Bit b of byte i of `firsts` is bit b at the first choice of input i + 1, taken from that of input 0.
+// A byte of a probe. Bit b of byte i of `firsts` is whether bit b differs between the first choices of inputs i + 1 and 0.
 struct byte {
     uint32_t step, place;
     uint64_t moves[BITS], firsts;
@@ -21,7 +22,7 @@ struct byte {
 struct columns {
     size_t inputs, each, calls; // calls so far
     struct byte *bytes;         // by step and place: all that some call has changed
-    size_t count, room;
+    size_t count;
     uint64_t numbers[MOST_INPUTS * 64]; // of the calls, at random
 };
 

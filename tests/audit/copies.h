@@ -1,5 +1,5 @@
 // Runs a call one instruction at a time without the trap flag: each instruction is copied once, and runs between a load and a save of all
-// registers. Some forty times as fast as step_through, which must have made a call of the trace before, and with which it must agree.
+// registers. Some twenty times as fast as step_through, which must have made a call of the trace before, and with which it must agree.
 #ifndef COPIES_H
 #define COPIES_H
 
