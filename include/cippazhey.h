@@ -107,7 +107,8 @@ uint16_t cippazhey_plain_call(uint32_t method, uint32_t n, uint32_t m, uint32_t 
 //     frame the results join to the ciphertext of FIPS 197. A refused call writes nothing.
 //   - Any two of the values that the logs of one layer's sixteen lookups list tell nothing of the state, all masks being
 //     uniform and independent.
-// What is not proved: that of two values of a whole frame, how long a call takes, what the compiled code holds.
+// What is not proved: that of two values of a whole frame; how long a call takes; what the compiled code holds in registers
+// and memory. Its values were audited by twos, by a linear test, for the x86-64 archive and its compiler only.
 // What is not cleared: the call's own stack and registers, which held shares.
 //
 // Returned is the refusal. Only the number of random bytes and the length of scratch are refused, in this order. Refused,
