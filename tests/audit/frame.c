@@ -9,7 +9,7 @@
 #include <stdio.h>
 #include <string.h>
 
-enum { SHARES = 3, RANDOM = 632, SCRATCH = 256, MOST_STEPS = 1 << 20, USED_BYTE = 0xa5 };
+enum { SHARES = 3, RANDOM = 632, CLEARED = 256, SCRATCH = 300, MOST_STEPS = 1 << 20, USED_BYTE = 0xa5 };
 
 static const uint8_t plaintext[BLOCK] = {0x00, 0x11, 0x22, 0x33, 0x44, 0x55, 0x66, 0x77, 0x88, 0x99, 0xaa, 0xbb, 0xcc, 0xdd, 0xee, 0xff};
 static uint8_t keys[MOST_INPUTS][BLOCK], key_shares[SHARES][BLOCK], random_bytes[RANDOM], scratch[SCRATCH], shares[SHARES][BLOCK];
@@ -41,18 +41,18 @@ static void choose_masks(const uint8_t key[BLOCK]) {
 
 // The shares join to the block, and the scratch is cleared.
 static bool right_answer(unsigned rounds, const uint8_t key[BLOCK], uint64_t result) {
-    static const uint8_t zeros[SCRATCH];
+    static const uint8_t zeros[CLEARED];
     uint8_t expected[BLOCK], joined[BLOCK];
     encrypt_block(rounds, key, plaintext, expected);
     for (int i = 0; i < BLOCK; i++) joined[i] = shares[0][i] ^ shares[1][i] ^ shares[2][i];
-    return (uint32_t)result == 0 && !memcmp(joined, expected, BLOCK) && !memcmp(scratch, zeros, SCRATCH);
+    return (uint32_t)result == 0 && !memcmp(joined, expected, BLOCK) && !memcmp(scratch, zeros, CLEARED);
 }
 
 // Makes one call; NULL, or why it cannot be judged.
-static const char *one_call(runner *run, struct trace *trace, const struct frame *frame, const uint8_t key[BLOCK]) {
+static const char *one_call(runner *run, struct trace *trace, const struct frame *frame, const uint8_t key[BLOCK], size_t length) {
     struct call call = {frame->code,
                         {(uintptr_t)plaintext, (uintptr_t)key_shares[0], (uintptr_t)key_shares[1], (uintptr_t)key_shares[2],
-                         (uintptr_t)random_bytes, RANDOM, (uintptr_t)scratch, SCRATCH, (uintptr_t)shares[0], (uintptr_t)shares[1],
+                         (uintptr_t)random_bytes, RANDOM, (uintptr_t)scratch, length, (uintptr_t)shares[0], (uintptr_t)shares[1],
                          (uintptr_t)shares[2]},
                         {{"plaintext", plaintext, BLOCK},
                          {"first share of the key", key_shares[0], BLOCK},
@@ -73,19 +73,20 @@ static const char *one_call(runner *run, struct trace *trace, const struct frame
 
 // The first call is stepped through, and run by copies too: both must note the same.
 static const char *first_call(struct trace *trace, const struct frame *frame, const uint8_t key[BLOCK]) {
-    const char *trouble = one_call(step_through, trace, frame, key);
+    const char *trouble = one_call(step_through, trace, frame, key, CLEARED);
     size_t count = trace->count;
-    if (!trouble) trouble = one_call(run_copies, trace, frame, key);
+    if (!trouble) trouble = one_call(run_copies, trace, frame, key, CLEARED);
     if (trouble) return trouble;
     return noted_again(trace, count) || !watches(COPIES_PART) ? NULL : "copied instructions do otherwise";
 }
 
-// Makes all calls; whether they can be judged.
+// Makes all calls, with scratch that is just long enough and longer, in turns; whether they can be judged. The way must not depend on that.
 static bool make_calls(const struct frame *frame, size_t count, struct trace *trace, struct columns *columns) {
     for (size_t call = 0; call < count * FRAME_CHOICES; call++) {
         const uint8_t *key = keys[call / FRAME_CHOICES];
         choose_masks(key);
-        const char *trouble = call ? one_call(run_copies, trace, frame, key) : first_call(trace, frame, key);
+        size_t length = call % 2 ? SCRATCH : CLEARED;
+        const char *trouble = call ? one_call(run_copies, trace, frame, key, length) : first_call(trace, frame, key);
         if (trouble) {
             printf("    %s: key %lu, choice %lu\n", trouble, (unsigned long)(call / FRAME_CHOICES), (unsigned long)(call % FRAME_CHOICES));
             return false;

@@ -129,6 +129,15 @@ control flow
 1:  nop
     go_on
 
+# One that depends on the length of the scratch.
+control scratch_length
+    cmpq $256, 16(%rsp)
+    ja 1f
+    nop
+    go_on
+1:  nop
+    go_on
+
 # The lowest bit of a copy of the first share flips where a random byte is above 127. The answer is wrong then, and nothing leaks.
 control answers
     movdqu (%rsi), %xmm0

@@ -37,6 +37,7 @@
     each(beside_both)        \
     each(later)              \
     each(flow)               \
+    each(scratch_length)     \
     each(answers)            \
     each(copies)
 

@@ -14,6 +14,9 @@
 #ifndef RANDOM_FRAMES
 #define RANDOM_FRAMES 10000
 #endif
+#if RANDOM_FRAMES < 1
+#error no random frame is tried
+#endif
 
 enum { MASKINGS = 50, STORED = 32 };
 
@@ -163,7 +166,7 @@ static const struct group groups[] = {
     {"in_a_row", in_a_row, 10},
     {"long_buffers", long_buffers, 40},
     {"ends_of_pages", ends_of_pages, 84},
-    {"watched_scratch", watched_scratch, 603},
+    {"watched_scratch", watched_scratch, 1208},
     {"random_frames", random_frames, RANDOM_FRAMES},
 };
 

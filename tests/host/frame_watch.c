@@ -25,7 +25,9 @@ struct seen {
 
 // By the place that the answer is read from, r3. In the watched frame no two lookups have the same.
 static struct seen lookups[ENTRIES];
-static unsigned answers, beside;
+static unsigned answers, beside, nonzero_writes;
+// The place of the write that is under way, or ENTRIES.
+static size_t writing = ENTRIES;
 // The last writes, from the oldest on, and whether scratch was zero before each.
 static struct {
     uint8_t place;
@@ -44,6 +46,7 @@ static void note_write(uint8_t place) {
     writes[next_write % ENTRIES].place = place;
     writes[next_write % ENTRIES].clean = all_zero();
     next_write++;
+    writing = place;
 }
 
 // To read zeros where all is zero tells nothing.
@@ -82,6 +85,8 @@ static void on_access(int number, siginfo_t *info, void *context) {
 
 static void on_step(int number, siginfo_t *info, void *context) {
     (void)number, (void)info;
+    nonzero_writes += writing < ENTRIES && scratch[writing] != 0;
+    writing = ENTRIES;
     mprotect(scratch, page_length, PROT_NONE);
     ((ucontext_t *)context)->uc_mcontext.gregs[REG_EFL] &= ~(greg_t)TRAP_FLAG;
 }
@@ -93,15 +98,16 @@ static void handle(int number, void (*handler)(int, siginfo_t *, void *), struct
     sigaction(number, &action, before);
 }
 
-// Encrypts a frame on watched scratch.
-static uint32_t watch(frame_call *call, struct frame_trial *trial) {
+// Encrypts a frame on watched scratch of a length.
+static uint32_t watch(frame_call *call, struct frame_trial *trial, size_t length) {
     struct sigaction access_before, step_before;
     struct buffer lent[BUFFERS];
     list_buffers(trial, lent);
     lent[SCRATCH].bytes = scratch;
+    lent[SCRATCH].length = length;
     memset(lookups, 0, sizeof lookups);
-    answers = beside = next_write = 0;
-    memset(scratch, 0xff, ENTRIES);
+    answers = beside = nonzero_writes = next_write = 0;
+    memset(scratch, 0xff, page_length);
     handle(SIGSEGV, on_access, &access_before);
     handle(SIGTRAP, on_step, &step_before);
     mprotect(scratch, page_length, PROT_NONE);
@@ -146,11 +152,12 @@ static void lend_scratch(void) {
     }
 }
 
-void watched_scratch(void) {
+// A lookup's entries are all bytes, each once, so one of its 256 is zero; clearing writes none that is not.
+static void watch_at_length(size_t length) {
     struct frame_trial trial = stored_trial(&frame_cases[frame_case_count - 1]);
-    lend_scratch();
-    record(watch(cippazhey_encrypt_frame, &trial) == CIPPAZHEY_ACCEPTED, "watched frame");
+    record(watch(cippazhey_encrypt_frame, &trial, length) == CIPPAZHEY_ACCEPTED, "watched frame");
     record(answers == LOOKUPS && beside == 0, "number of lookups, and nothing beside them");
+    record(nonzero_writes == LOOKUPS * (ENTRIES - 1), "nothing written but entries and zeros");
     record(all_zero(), "watched scratch after the last lookup");
     for (unsigned each = 0; each < LOOKUPS; each++) {
         const uint8_t *masks = trial.random + 32 + 3 * each;
@@ -159,4 +166,11 @@ void watched_scratch(void) {
         record(in_order(lookup, last_r_primes[each]), "entries in the order of method 2");
         record(masked(lookup, masks), "entries under their masks");
     }
+}
+
+// Scratch that is just long enough, and longer.
+void watched_scratch(void) {
+    lend_scratch();
+    watch_at_length(ENTRIES);
+    watch_at_length(page_length);
 }

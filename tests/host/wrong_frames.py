@@ -34,7 +34,13 @@ PLAINTEXT_MASKS = "r1 = random[place], r2 = random[16 + place]"
 KEY_SHARES = "{key1[place], key2[place], key3[place]}"
 CLEAR = "memset(lent.scratch, 0, SCRATCH_LENGTH);"
 CLEAR_BEFORE = "    clear(lent);\n    for (int a = 0; a < 256; a++) {\n"
+ENTRY = "(aes_sbox[x0 ^ a] ^ s1) ^ s2;"
+ANSWER = "    byte[0] = lent.scratch[r3];\n"
 LAST_CLEAR = "        add_round_key(state, words, round);\n    }\n    clear(lent);\n"
+
+
+# It puts together what must stay apart.
+SECRET = "    *(volatile uint8_t *)&lent.scratch[7] = x0 ^ r1 ^ r2;\n"
 
 
 def before(line, *added):
@@ -156,6 +162,11 @@ WATCHED = {
     "no r3 in one lookup": (NAMED_MASKS, NAMED_MASKS.replace("masks[2]", "round == 10 && j == 19 ? 0 : masks[2]")),
     "plaintext not masked": (PLAINTEXT_MASKS, "r1 = 0, r2 = 0"),
     "plaintext's masks in turns": (PLAINTEXT_MASKS, "r1 = random[2 * place], r2 = random[2 * place + 1]"),
+    "another mask for the other entries": (ENTRY, ENTRY.replace("^ s2", "^ ((a ^ r_prime) == r3 ? s2 : 0)")),
+    "an answer read twice": (ANSWER, f"    (void)*(volatile uint8_t *)&lent.scratch[r3];\n{ANSWER}"),
+    "the secret byte left after a lookup": (ANSWER, ANSWER + SECRET),
+    "the secret byte left before a lookup": (CLEAR_BEFORE, SECRET + CLEAR_BEFORE),
+    "a byte behind long scratch read": before(ENCRYPT, "if (scratch_length > 256) { (void)*(volatile uint8_t *)&scratch[256]; }"),
 }
 RANDOM_FRAMES = {
     **{name: OTHER_SHARES[name] for name in ("round constant on the second share", "s1 and s2 exchanged", "results in another order")},
@@ -215,7 +226,8 @@ def noticed(done):
 def complaints(folder):
     build_objects(folder)
     reference = (HOST / "frame_reference.c").read_text()
-    if run(folder, reference).returncode != 0:
+    done = run(folder, reference)
+    if noticed(done) or done.returncode != 0:
         yield "the reference itself does not pass"
     for common, groups in ((False, WRONG_FRAMES), (True, COMMON_FAULTS)):
         for group, frames in groups.items():

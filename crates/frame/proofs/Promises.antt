@@ -7,11 +7,12 @@ use lib.Seq.{take-at, drop-at}
 use Rattle.refusals.specs.Left.{left}
 use Rattle.table.specs.Balanced.{at}
 use Rattle.sbox.specs.Tabulate.{tabulate}
-use Rattle.aes.specs.State.{four, column, byte, state-of}
+use Rattle.aes.specs.State.{four, column, byte, state-of, word-from, state-from}
 use Rattle.frame_lookups.specs.Shares.{Shares, share, joined}
 use Rattle.frame_lookups.specs.Scratch.{cleared}
+use Rattle.frame_lookups.specs.Lookups.{position}
 use Rattle.frame.specs.Frame.{flat, encrypted, frame-reply, frame-scratch}
-use Rattle.frame.specs.Promises.{ciphertext, Frame-right, Scratch-cleared}
+use Rattle.frame.specs.Promises.{ciphertext, Frame-right, Scratch-cleared, Positions-right, Order-right}
 use Rattle.frame_rounds.proofs.Bytes.{shares-bytes}
 use Rattle.frame_rounds.proofs.Right.{frame-joins}
 
@@ -31,3 +32,11 @@ scratch-cleared random scratch e =
     let zeros : List ℕ = replicate 256 0 in
     let long = length-replicate {A = ℕ} 256 0 in
     rw e (take-at zeros (drop 256 scratch) 256 long, drop-at zeros (drop 256 scratch) 256 long)
+
+pub positions-right : Positions-right
+unfolding Positions-right tabulate position
+positions-right = refl
+
+pub order-right : Order-right
+unfolding Order-right flat tabulate state-from word-from byte column four at
+order-right bytes = refl

@@ -1,15 +1,16 @@
 -- What is promised of a frame. Each is a type; its proof stands in proofs/Promises.antt.
 use mathlib.Core.Path.{_≡_}
 use mathlib.Core.List.{List, [], _∷_}
-use Prim.Native.Nat.{ℕ, _<_}
+use Prim.Native.Nat.{ℕ, _+_, _*_, _/_, _%_, _<_}
 use lib.ListN.{take, drop, replicate}
 use Rattle.bits.specs.Xor.{_⊕_}
 use Rattle.table.specs.Balanced.{at}
 use Rattle.sbox.specs.Tabulate.{tabulate}
-use Rattle.aes.specs.State.{State, Bytes}
+use Rattle.aes.specs.State.{State, state-from, Bytes}
 use Rattle.aes.specs.Cipher.{cipher}
 use Rattle.frame.specs.declared.Encrypted.{Encrypted}
 use Rattle.frame_lookups.specs.Shares.{joined}
+use Rattle.frame_lookups.specs.Lookups.{position}
 use Rattle.frame.specs.Frame.{frame-refusal, flat, frame-reply, frame-scratch}
 
 -- the sixteen bytes that the three shares join to
@@ -28,3 +29,11 @@ unfoldable pub Scratch-cleared : Type 0
 Scratch-cleared =
     (random scratch : List ℕ) → frame-refusal random scratch ≡ 0 →
     (take 256 (frame-scratch random scratch) ≡ replicate 256 0) × (drop 256 (frame-scratch random scratch) ≡ drop 256 scratch)
+
+-- the random bytes of the 200 lookups begin at 32, 35, .., 629, round by round, so none is used twice
+unfoldable pub Positions-right : Type 0
+Positions-right = tabulate 200 (λ q. position (q / 20) (q % 20)) ≡ tabulate 200 (λ q. 32 + 3 * q)
+
+-- bytes are handed out in the order in which a state is read: byte r + 4c is that of row r and column c
+unfoldable pub Order-right : Type 0
+Order-right = (bytes : List ℕ) → flat (state-from bytes 0) ≡ tabulate 16 (at bytes)
