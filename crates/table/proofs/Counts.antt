@@ -36,7 +36,7 @@ or-large m a b = or-large-by-cases (leb (2 ^ m) a) (leb (2 ^ m) b) refl refl
     or-large-by-cases false false e f = lt-leb _ _ (or-lt m a b (leb-false _ _ e) (leb-false _ _ f))
 
 -- one counter is raised
-one-more : (counts : List ℕ) (e v : ℕ) → e < length counts → at (set counts e (getD counts e 0 + 1)) v ≡ at counts v + cond (eqb e v) 1 0
+pub one-more : (counts : List ℕ) (e v : ℕ) → e < length counts → at (set counts e (getD counts e 0 + 1)) v ≡ at counts v + cond (eqb e v) 1 0
 unfolding at
 one-more counts e v h = one-more-by-cases (eqb e v) refl
   where
