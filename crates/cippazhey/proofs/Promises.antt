@@ -1,15 +1,30 @@
--- What is promised of what C gets of a frame holds.
-use mathlib.Core.Path.{_∙_, sym}
-use mathlib.Core.List.{[], _∷_}
-use Prim.Native.Nat.{ℕ}
+-- What is promised of what C gets of a frame and of a report holds.
+use mathlib.Core.Path.{_≡_, refl, ap}
+use Prim.Native.Nat.{ℕ, _<_}
+use native.Mathlib.Omega.{arith}
 use Rattle.refusals.specs.Left.{left}
 use Rattle.frame.specs.Frame.{encrypted, frame-reply}
 use Rattle.frame.specs.Promises.{ciphertext, Frame-right}
 use Rattle.frame.proofs.Promises.{frame-right}
-use Rattle.cippazhey.specs.Export.{exported-share}
-use Rattle.cippazhey.specs.Promises.{Exported-right}
+use Rattle.screening.specs.declared.Report.{Report}
+use Rattle.screening.specs.declared.Report.the-variants.{Start, None}
+use Rattle.screening.specs.Report.{report}
+use Rattle.screening.specs.Promises.{Says, Report-right}
+use Rattle.screening.proofs.Promises.{report-right}
+use Rattle.screening.proofs.Reports.{windows-most}
+use Rattle.cippazhey.specs.Export.{exported-share, no-fault, exported-report}
+use Rattle.cippazhey.specs.Promises.{Exported-right, Report-told}
 
 pub exported-right : Exported-right
 unfolding Exported-right exported-share Frame-right ciphertext frame-reply encrypted left
 exported-right p k1 k2 k3 random scratch old1 old2 old3 hp h1 h2 h3 small e =
     rw e (rw e at (frame-right p k1 k2 k3 random scratch hp h1 h2 h3 small e))
+
+pub report-told : Report-told
+unfolding Report-told Report-right Says exported-report no-fault
+report-told run h = by-cases (report run) (report-right run .0)
+  where
+    by-cases : (r : Report) → Says run r
+        → (exported-report r ≡ no-fault → r ≡ None) × ((start : ℕ) → exported-report r ≡ start → start < no-fault → r ≡ Start start)
+    by-cases (Start k) s = (λ e. absurd (omega (arith, s .0, windows-most run)), λ start e l. ap Start e)
+    by-cases None s = (λ e. refl, λ start e l. absurd (omega arith))

@@ -1,7 +1,8 @@
--- What is promised of what C gets of a frame. It is a type; its proof stands in proofs/Promises.antt.
+-- What is promised of what C gets of a frame and of a report. Each is a type; its proof stands in proofs/Promises.antt.
 use mathlib.Core.Path.{_≡_}
 use mathlib.Core.List.{List, [], _∷_}
-use Prim.Native.Nat.{ℕ, _<_}
+use Prim.Native.Nat.{ℕ, _^_, _<_}
+use lib.ListN.{length}
 use Rattle.bits.specs.Xor.{_⊕_}
 use Rattle.table.specs.Balanced.{at}
 use Rattle.sbox.specs.Tabulate.{tabulate}
@@ -9,7 +10,9 @@ use Rattle.aes.specs.State.{State, Bytes}
 use Rattle.aes.specs.Cipher.{cipher}
 use Rattle.frame_lookups.specs.Shares.{joined}
 use Rattle.frame.specs.Frame.{frame-refusal, flat}
-use Rattle.cippazhey.specs.Export.{exported-share}
+use Rattle.screening.specs.declared.Report.the-variants.{Start, None}
+use Rattle.screening.specs.Report.{report}
+use Rattle.cippazhey.specs.Export.{exported-share, no-fault, exported-report}
 
 -- whatever the three lent places held: in every accepted frame they then join to FIPS 197's ciphertext of the plaintext under the joined key
 unfoldable pub Exported-right : Type 0
@@ -20,3 +23,10 @@ Exported-right =
     (λ i. at (exported-share 0 p k1 k2 k3 random scratch old1) i ⊕ at (exported-share 1 p k1 k2 k3 random scratch old2) i
     ⊕ at (exported-share 2 p k1 k2 k3 random scratch old3) i)
     ≡ flat (cipher p (joined (k1 ∷ k2 ∷ k3 ∷ [])))
+
+-- a start is never all ones, so the number tells which report it is: no run in memory has 2^64 bytes
+unfoldable pub Report-told : Type 0
+Report-told =
+    (run : List ℕ) → length run < 2 ^ 64
+    → (exported-report (report run) ≡ no-fault → report run ≡ None)
+    × ((start : ℕ) → exported-report (report run) ≡ start → start < no-fault → report run ≡ Start start)

@@ -1,10 +1,12 @@
-// What C links: the plain call as one 16-bit number, refusal × 256 + share, the clearing of a buffer, and a frame of AES-128.
-// include/cippazhey.h declares all three.
+// What C links: the plain call as one 16-bit number, refusal × 256 + share, the clearing of a buffer, a frame of AES-128, and the screening
+// of a run of random bytes. include/cippazhey.h declares all four.
+use screening::Report;
 ghost use mathlib.Core.Path.{_≡_};
 ghost use lib.ListN.{length, replicate};
 ghost use Rattle.calls.specs.Reply.{case-from, plain-reply, plain-scratch};
 ghost use Rattle.frame.specs.Frame.{frame-refusal, frame-scratch};
-ghost use Rattle.cippazhey.specs.Export.{exported, exported-share};
+ghost use Rattle.screening.specs.Report.{report};
+ghost use Rattle.cippazhey.specs.Export.{exported, exported-share, exported-report};
 
 #[no_mangle]
 pub extern "C" fn cippazhey_plain_call(
@@ -68,4 +70,14 @@ pub extern "C" fn cippazhey_encrypt_frame(
     let third = encrypted.share3;
     *share3 = third;
     0
+}
+
+#[no_mangle]
+pub extern "C" fn cippazhey_screen(run: &[u8]) -> u64
+    ensures { λ r. ⌜ r ≡ exported-report (report (now (run .entry))) ⌝ }
+{
+    match screening::screen(run) {
+        Report::Start(start) => start as u64,
+        Report::None => 0xffff_ffff_ffff_ffff,
+    }
 }

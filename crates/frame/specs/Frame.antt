@@ -7,14 +7,16 @@ use lib.ListN.{length, replicate}
 use Rattle.refusals.specs.Checks.{Check, _when_, first-of}
 use Rattle.refusals.specs.Left.{left}
 use Rattle.aes.specs.State.{State, byte}
+use Rattle.screening.specs.Report.{faulty-run}
 use Rattle.frame.specs.declared.Encrypted.{Encrypted}
 use Rattle.frame_lookups.specs.Scratch.{cleared}
 use Rattle.frame_lookups.specs.Shares.{Shares, share}
 use Rattle.frame_rounds.specs.Rounds.{frame-shares}
 
--- 26, 13
+-- 26, 27, 13
 unfoldable pub frame-checks : (random scratch : List ℕ) → List Check
-frame-checks random scratch = 26 when (not (eqb (length random) 632)) ∷ 13 when (ltb (length scratch) 256) ∷ []
+frame-checks random scratch =
+    26 when (not (eqb (length random) 632)) ∷ 27 when (faulty-run random) ∷ 13 when (ltb (length scratch) 256) ∷ []
 
 unfoldable pub frame-refusal : (random scratch : List ℕ) → ℕ
 frame-refusal random scratch = first-of (frame-checks random scratch)

@@ -1,13 +1,15 @@
 -- What is promised of a frame. Each is a type; its proof stands in proofs/Promises.antt.
 use mathlib.Core.Path.{_≡_}
 use mathlib.Core.List.{List, [], _∷_}
-use Prim.Native.Nat.{ℕ, _+_, _*_, _/_, _%_, _<_}
-use lib.ListN.{take, drop, replicate}
+use mathlib.Core.Bool.{true}
+use Prim.Native.Nat.{ℕ, _+_, _*_, _/_, _%_, _≤_, _<_}
+use lib.ListN.{length, take, drop, replicate}
 use Rattle.bits.specs.Xor.{_⊕_}
-use Rattle.table.specs.Balanced.{at}
+use Rattle.table.specs.Balanced.{at, count-of}
 use Rattle.sbox.specs.Tabulate.{tabulate}
 use Rattle.aes.specs.State.{State, state-from, Bytes}
 use Rattle.aes.specs.Cipher.{cipher}
+use Rattle.screening.specs.Report.{faulty-run}
 use Rattle.frame.specs.declared.Encrypted.{Encrypted}
 use Rattle.frame_lookups.specs.Shares.{joined}
 use Rattle.frame_lookups.specs.Lookups.{position}
@@ -23,6 +25,16 @@ Frame-right =
     (p k1 k2 k3 : State) (random scratch : List ℕ) → Bytes p → Bytes k1 → Bytes k2 → Bytes k3 → ((i : ℕ) → at random i < 256) →
     frame-refusal random scratch ≡ 0 →
     ciphertext (frame-reply p k1 k2 k3 random scratch) ≡ flat (cipher p (joined (k1 ∷ k2 ∷ k3 ∷ [])))
+
+-- 632 bytes are refused with 27 just if they are a faulty run, whatever the scratch; so are those of a source that is stuck; and bytes of
+-- which none stands more than 20 times are taken, with scratch that is long enough
+unfoldable pub Faulty-refused : Type 0
+Faulty-refused =
+    ((random scratch : List ℕ) → length random ≡ 632 → faulty-run random ≡ true → frame-refusal random scratch ≡ 27)
+    × ((random scratch : List ℕ) → frame-refusal random scratch ≡ 27 → (length random ≡ 632) × (faulty-run random ≡ true))
+    × ((value : ℕ) (scratch : List ℕ) → value < 256 → frame-refusal (replicate 632 value) scratch ≡ 27)
+    × ((random scratch : List ℕ) → length random ≡ 632 → ((value : ℕ) → value < 256 → count-of value random ≤ 20) → 256 ≤ length scratch
+    → frame-refusal random scratch ≡ 0)
 
 -- after it the first 256 bytes of the scratch are 0, and those behind them are unchanged
 unfoldable pub Scratch-cleared : Type 0

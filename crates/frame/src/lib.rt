@@ -1,4 +1,5 @@
 // One block encrypted by FIPS 197 under a key of 128 bits, with key and state in three shares.
+use screening::Report;
 ghost use mathlib.Core.Path.{_≡_};
 ghost use Prim.Native.Nat.{_≤_};
 ghost use lib.ListN.{length};
@@ -14,8 +15,8 @@ pub struct Encrypted {
     pub share3: [u8; 16],
 }
 
-// The plaintext comes unshared, the key in three shares. `random` has 632 bytes, new for each frame; the first 256 bytes of the scratch
-// are used, and are 0 after it.
+// The plaintext comes unshared, the key in three shares. `random` has 632 bytes, new for each frame, which are screened; the first 256 bytes
+// of the scratch are used, and are 0 after it.
 pub fn encrypt_frame(
     plaintext: [[u8; 4]; 4],
     key1: [[u8; 4]; 4],
@@ -50,6 +51,9 @@ fn refused(random: &[u8], scratch: &[u8]) -> u32
 {
     if random.len() != 632 {
         return 26;
+    }
+    if let Report::Start(_) = screening::screen(random) {
+        return 27;
     }
     if scratch.len() < 256 {
         return 13;

@@ -7,7 +7,7 @@ use native.Mathlib.Nat.{zero-add, add-zero, add-assoc, le-of-suc-le-suc, not-suc
 use native.Mathlib.Omega.{arith}
 use borrow.Author.Tests.{eq-eqb}
 use lib.Dec.{eqb}
-use lib.ListN.{take, drop, replicate}
+use lib.ListN.{take, drop, replicate, take-append-drop}
 use lib.Seq.{take-add}
 use Rattle.table.specs.Balanced.{count-of}
 
@@ -27,6 +27,17 @@ count-front v run j k h =
     let parts : count-of v (take k run) ≡ count-of v (take j run) + count-of v (take (k - j) (drop j run))
     = ap (λ (n : ℕ). count-of v (take n run)) whole ∙ ap (count-of v) (take-add j (k - j) run) ∙ count-append v _ _ in
     omega arith
+
+-- a part has no more than the whole
+pub count-part : (v size start : ℕ) (run : List ℕ) → count-of v (take size (drop start run)) ≤ count-of v run
+count-part v size start run =
+    let front = ap (count-of v) (take-append-drop size (drop start run)) in
+    let rest = ap (count-of v) (take-append-drop start run) in
+    omega (
+      arith,
+      count-append v (take size (drop start run)) (drop size (drop start run)),
+      count-append v (take start run) (drop start run),
+    )
 
 -- a front of a list of one value
 pub count-stuck : (v j size : ℕ) → j ≤ size → count-of v (take j (replicate size v)) ≡ j

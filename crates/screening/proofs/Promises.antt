@@ -3,7 +3,7 @@ use mathlib.Core.Path.{_≡_, refl, sym, _∙_}
 use mathlib.Core.Bool.{Bool, true, false, _||_, true≢false}
 use mathlib.Core.List.{List}
 use Prim.Native.Nat.{ℕ, zero, suc, _<_}
-use native.Mathlib.Nat.{le-refl}
+use native.Mathlib.Nat.{le-refl, le-trans}
 use native.Mathlib.Omega.{arith}
 use borrow.Author.Tests.{ltb-true}
 use lib.Dec.{ltb}
@@ -13,9 +13,9 @@ use Rattle.table.specs.Balanced.{count-of}
 use Rattle.screening.specs.declared.Report.{Report}
 use Rattle.screening.specs.declared.Report.the-variants.{Start, None}
 use Rattle.screening.specs.Report.{window, windows, some-below, faulty, faulty-run, first-from, report}
-use Rattle.screening.specs.Promises.{Fault-right, Windows-right, Says, Report-right, Run-right, Stuck-noticed}
-use Rattle.screening.proofs.Occurrences.{count-front, count-stuck}
-use Rattle.screening.proofs.Reports.{some-passes, none-passes, too-often, none-from, found-from, Found, finds, windows-count, windows-most}
+use Rattle.screening.specs.Promises.{Fault-right, Windows-right, Says, Report-right, Run-right, Stuck-noticed, Few-passes}
+use Rattle.screening.proofs.Occurrences.{count-front, count-part, count-stuck}
+use Rattle.screening.proofs.Reports.{some-passes, none-passes, too-often, not-faulty, none-from, found-from, Found, finds, windows-count, windows-most}
 
 -- some number below the limit passes, so one does
 one-passes : (limit : ℕ) (test : ℕ → Bool) → some-below limit test ≡ true → (k : ℕ) × (k < limit) × (test k ≡ true)
@@ -68,19 +68,22 @@ report-right run = (reported run, only)
     only (Start k) s = sym (found-from 0 (windows run) _ k (omega arith) (omega (arith, s .0)) (s .1) (λ j z l. s .2 j l))
     only None s = sym (none-from 0 (windows run) _ (λ k z l. s k (omega arith)))
 
-pub run-right : Run-right
-unfolding Run-right Says faulty-run
-run-right run = (faulty-so, not-so)
-  where
-    faulty-so : (start : ℕ) → report run ≡ Start start → faulty-run run ≡ true
-    faulty-so start e =
-        let there : Says run (Start start) = rw e at (reported run) in
-        some-passes (windows run) _ start (there .0) (there .1)
+-- what a call that reports tells of the run
+pub told-faulty : (run : List ℕ) (start : ℕ) → Start start ≡ report run → faulty-run run ≡ true
+unfolding faulty-run Says
+told-faulty run start e =
+    let there : Says run (Start start) = rw (← e) at (reported run) in
+    some-passes (windows run) _ start (there .0) (there .1)
 
-    not-so : report run ≡ None → faulty-run run ≡ false
-    not-so e =
-        let nowhere : Says run None = rw e at (reported run) in
-        none-passes (windows run) _ nowhere
+pub told-clean : (run : List ℕ) → None ≡ report run → faulty-run run ≡ false
+unfolding faulty-run Says
+told-clean run e =
+    let nowhere : Says run None = rw (← e) at (reported run) in
+    none-passes (windows run) _ nowhere
+
+pub run-right : Run-right
+unfolding Run-right
+run-right run = (λ start e. told-faulty run start (sym e), λ e. told-clean run (sym e))
 
 -- more than 20 bytes of one value
 stuck : (size value : ℕ) → 20 < size → value < 256 → report (replicate size value) ≡ Start 0
@@ -95,3 +98,9 @@ stuck size value h b =
 pub stuck-noticed : Stuck-noticed
 unfolding Stuck-noticed report windows first-from
 stuck-noticed = (stuck, refl)
+
+pub few-passes : Few-passes
+unfolding Few-passes report window
+few-passes run h =
+    none-from 0 (windows run) _
+    (λ start z l. not-faulty (take 512 (drop start run)) (λ value b. le-trans (count-part value 512 start run) (h value b)))

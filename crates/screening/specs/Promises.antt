@@ -40,3 +40,7 @@ Run-right =
 -- a source that is stuck is noticed from its first byte on, and an empty run is not faulty
 unfoldable pub Stuck-noticed : Type 0
 Stuck-noticed = ((size value : ℕ) → 20 < size → value < 256 → report (replicate size value) ≡ Start 0) × (report [] ≡ None)
+
+-- a run in which no value stands more than 20 times is not faulty, however long it is
+unfoldable pub Few-passes : Type 0
+Few-passes = (run : List ℕ) → ((value : ℕ) → value < 256 → count-of value run ≤ 20) → report run ≡ None
