@@ -6,10 +6,16 @@ import check_calls
 import check_frame
 import check_print
 import check_sbox
+import check_screening
 import check_small
 
 # For each module, what holds it to the documents. The quick parts come first: a wrong model is then noticed sooner.
-PARTS = {"model": (check_small, check_print, check_calls), "sbox": (check_sbox,), "frame": (check_frame,)}
+PARTS = {
+    "model": (check_small, check_print, check_calls),
+    "sbox": (check_sbox,),
+    "screening": (check_screening,),
+    "frame": (check_frame,),
+}
 
 
 # The name, what the module says and what it should say, of all that differs.

@@ -1,11 +1,12 @@
-# Holds the model's cipher to FIPS 197, and its frame to the request for it (02, §13). Each group yields a name, what the model says and
-# what it should say.
+# Holds the model's cipher to FIPS 197, and its frame to the requests for it (02, §13 and §14). Each group yields a name, what the model
+# says and what it should say.
 import random
 from unittest import mock
 
 import fips_197
 import frame
 import model
+from runs import in_turn, placed, spreads
 
 # Where each byte comes from when rows are shifted: FIPS 197, Figure 8, read column by column.
 SHIFTED_FROM = (0, 5, 10, 15, 4, 9, 14, 3, 8, 13, 2, 7, 12, 1, 6, 11)
@@ -44,6 +45,30 @@ def refusals():
             yield f"{random_length} random bytes, scratch of {len(scratch)}", got, (26, result, scratch)
     for scratch in ([], [0], [5] * 16, [0] * 255, [5] * 255):
         yield f"scratch of {len(scratch)}", frame.encrypt_frame(plaintext, key, lent, scratch, result), (13, result, scratch)
+
+
+# A faulty run of random bytes is refused after a wrong number of them and before short scratch, and leaves everything as it was.
+def faulty_runs():
+    plaintext, key, lent, _ = some_frame(1)
+    result = [[7] * 16, [8] * 16, [9] * 16]
+    stuck_at_either_end = ([0] * 21 + lent[21:], lent[:-21] + [255] * 21)
+    for run in ([0] * 632, [255] * 632, in_turn(25, 632), *stuck_at_either_end):
+        for scratch in ([], [5] * 255, [0] * 256, [5] * 300):
+            got = frame.encrypt_frame(plaintext, key, run, scratch, result)
+            yield f"faulty run, scratch of {len(scratch)}", got, (27, result, scratch)
+            for length in (0, 20, 21, 512, 631, 633):
+                got = frame.encrypt_frame(plaintext, key, (run * 2)[:length], scratch, result)
+                yield f"faulty run of {length}, scratch of {len(scratch)}", got, (26, result, scratch)
+
+
+# 21 of a value in the first, in one in the middle and in the last of the 121 windows; and in none, which short scratch shows.
+def windows():
+    for start, length, refusal in ((0, 512, 27), (60, 512, 27), (120, 512, 27), (0, 513, 13), (60, 513, 13), (119, 513, 13)):
+        for ranges in spreads(start, length):
+            run = placed(in_turn(26, 632), 200, *ranges)
+            yield f"within {length} bytes from {start} on, {ranges}", frame.frame_refusal(run, [0] * 255), refusal
+    for run in (in_turn(26, 632), placed(in_turn(26, 632), 200, range(612, 632))):
+        yield "20 in a window", frame.frame_refusal(run, [0] * 256), 0
 
 
 # Scratch may hold anything. What stands behind its first 256 bytes stays.
@@ -121,4 +146,4 @@ def lookups():
 
 
 # The quick ones come first.
-GROUPS = (cipher, refusals, shares, lookups, scratches, joins)
+GROUPS = (cipher, refusals, faulty_runs, windows, shares, lookups, scratches, joins)

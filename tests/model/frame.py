@@ -1,10 +1,11 @@
-# A whole AES-128 frame in plain Python, written from FIPS 197 and the request for it (02, §13) alone: the cipher itself, and the frame on
-# three shares. It shares nothing with the proved code; a lookup is that of model.py.
+# A whole AES-128 frame in plain Python, written from FIPS 197 and the requests for it (02, §13 and §14) alone: the cipher itself, and the
+# frame on three shares. It shares nothing with the proved code; a lookup is that of model.py, the screening that of screening.py.
 # A block is a list of 16 bytes, byte r + 4c being row r of column c; a word is a list of 4. What is shared is a list of three such lists.
 from collections import namedtuple
 
 import model
 import sbox
+import screening
 
 SBOX = sbox.table()
 # Of a round of the cipher or of the frame: the state at its start, after each of its three steps (None where columns are not mixed), and
@@ -135,6 +136,8 @@ def frame_rounds(plaintext, key, random, scratch):
 def frame_refusal(random, scratch):
     if len(random) != 632:
         return 26
+    if screening.report(random) is not None:
+        return 27
     if len(scratch) < 256:
         return 13
     return 0

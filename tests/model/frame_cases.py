@@ -4,22 +4,24 @@ import random
 
 import fips_197
 import frame
+from runs import in_turn
 
 ZEROS, ONES, COUNTED = [0] * 16, [255] * 16, list(range(16))
 
 
-# A plaintext, three key shares and the random bytes of each frame. Without masks share one is the ciphertext; a mask alone shows where it
-# goes. In the last one no two lookups have the same r3.
+# A plaintext, three key shares and the random bytes of each frame. In some frames one random byte has another lowest bit, which shows where
+# it goes. In the last one no two lookups have the same r3.
 def frames():
+    counted = in_turn(251, 632)
     for plaintext, key in ((fips_197.PLAINTEXT_B, fips_197.KEY_B), (fips_197.PLAINTEXT_C, fips_197.KEY_C)):
-        yield plaintext, [key, ZEROS, ZEROS], [0] * 632
-        yield plaintext, [key, ONES, ONES], [place % 251 for place in range(632)]
-    yield ZEROS, [ZEROS, ZEROS, ZEROS], [0] * 632
-    yield ONES, [ONES, ONES, ONES], [255] * 632
-    yield ZEROS, [ZEROS, COUNTED, ZEROS], [0] * 632
-    yield ZEROS, [ZEROS, ZEROS, COUNTED], [0] * 632
+        yield plaintext, [key, ZEROS, ZEROS], counted
+        yield plaintext, [key, ONES, ONES], in_turn(26, 632)
+    yield ZEROS, [ZEROS, ZEROS, ZEROS], counted
+    yield ONES, [ONES, ONES, ONES], [255 - byte for byte in counted]
+    yield ZEROS, [ZEROS, COUNTED, ZEROS], counted
+    yield ZEROS, [ZEROS, ZEROS, COUNTED], counted
     for place in (0, 16, 31, 32, 33, 34, 43, 44, 91, 92, 572, 584, 629, 630, 631):
-        yield COUNTED, [COUNTED, ZEROS, ZEROS], [0] * place + [1] + [0] * (631 - place)
+        yield COUNTED, [COUNTED, ZEROS, ZEROS], counted[:place] + [counted[place] ^ 1] + counted[place + 1 :]
     source = random.Random(2)
     for _ in range(8):
         yield source.randbytes(16), [source.randbytes(16) for _ in range(3)], source.randbytes(632)

@@ -8,8 +8,10 @@ import check
 import frame
 import model
 import sbox
+import screening
 from edits import edited
 from frame_mutants import FRAME
+from screening_mutants import SCREENING
 
 # For each function of the model, the edits of its text: a piece of it, and what takes its place. A number that another is returned for
 # when both apply is a wrong order.
@@ -304,7 +306,7 @@ def complaints(module, edits):
 
 def main():
     found = []
-    for module, edits in ((model, MODEL), (sbox, SBOX), (frame, FRAME)):
+    for module, edits in ((model, MODEL), (sbox, SBOX), (screening, SCREENING), (frame, FRAME)):
         found += [f"{module.__name__}: {complaint}" for complaint in complaints(module, edits)]
         print(f"{sum(map(len, edits.values()))} edits of {module.__name__}.py")
     for complaint in found:

@@ -10,6 +10,7 @@ import frame_records
 import logged_cases
 import model
 import sbox
+import screening_cases
 import sheets
 import small_cases
 
@@ -35,6 +36,7 @@ def made_files():
     return {
         **program_files("test_small_calls", small_cases),
         **program_files("test_logged_calls", logged_cases),
+        **program_files("test_screening", screening_cases),
         **program_files("test_frames", frame_records),
         **sheet_files(),
         "bench/stdin": document.SAMPLE_INPUT,
