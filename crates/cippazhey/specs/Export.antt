@@ -23,7 +23,7 @@ exported-share number p k1 k2 k3 random scratch old =
 unfoldable pub no-fault : ℕ
 no-fault = 2 ^ 64 - 1
 
--- the first faulty window's start
+-- the first faulty window's start, or that number
 unfoldable pub exported-report : Report → ℕ
 exported-report (Start start) = start
 exported-report None = no-fault

@@ -1,7 +1,7 @@
 -- What is promised of a frame. Each is a type; its proof stands in proofs/Promises.antt.
 use mathlib.Core.Path.{_≡_}
-use mathlib.Core.List.{List, [], _∷_}
-use mathlib.Core.Bool.{true}
+use mathlib.Core.List.{List, [], _∷_, _++_}
+use mathlib.Core.Bool.{true, false}
 use Prim.Native.Nat.{ℕ, _+_, _*_, _/_, _%_, _≤_, _<_}
 use lib.ListN.{length, take, drop, replicate}
 use Rattle.bits.specs.Xor.{_⊕_}
@@ -26,13 +26,20 @@ Frame-right =
     frame-refusal random scratch ≡ 0 →
     ciphertext (frame-reply p k1 k2 k3 random scratch) ≡ flat (cipher p (joined (k1 ∷ k2 ∷ k3 ∷ [])))
 
--- 632 bytes are refused with 27 just if they are a faulty run, whatever the scratch; so are those of a source that is stuck; and bytes of
--- which none stands more than 20 times are taken, with scratch that is long enough
-unfoldable pub Faulty-refused : Type 0
-Faulty-refused =
-    ((random scratch : List ℕ) → length random ≡ 632 → faulty-run random ≡ true → frame-refusal random scratch ≡ 27)
-    × ((random scratch : List ℕ) → frame-refusal random scratch ≡ 27 → (length random ≡ 632) × (faulty-run random ≡ true))
-    × ((value : ℕ) (scratch : List ℕ) → value < 256 → frame-refusal (replicate 632 value) scratch ≡ 27)
+-- the refusals in their order: 26 for any number of random bytes but 632; then 27 for a faulty run of them, whatever the scratch; then 13
+-- for fewer than 256 bytes of scratch; and nothing else
+unfoldable pub Refusals-right : Type 0
+Refusals-right =
+    (random scratch : List ℕ) → ((length random ≡ 632 → ⊥) → frame-refusal random scratch ≡ 26)
+    × (length random ≡ 632 → faulty-run random ≡ true → frame-refusal random scratch ≡ 27)
+    × (length random ≡ 632 → faulty-run random ≡ false → length scratch < 256 → frame-refusal random scratch ≡ 13)
+    × (length random ≡ 632 → faulty-run random ≡ false → 256 ≤ length scratch → frame-refusal random scratch ≡ 0)
+
+-- the random bytes of a source that sticks for 21 of them are refused; those among which no value stands more than 20 times are taken
+unfoldable pub Stuck-refused : Type 0
+Stuck-refused =
+    ((before rest scratch : List ℕ) (value : ℕ) → value < 256 → length (before ++ (replicate 21 value ++ rest)) ≡ 632
+    → frame-refusal (before ++ (replicate 21 value ++ rest)) scratch ≡ 27)
     × ((random scratch : List ℕ) → length random ≡ 632 → ((value : ℕ) → value < 256 → count-of value random ≤ 20) → 256 ≤ length scratch
     → frame-refusal random scratch ≡ 0)
 

@@ -1,10 +1,11 @@
 -- What the loop over a run keeps, and the report where it ends: the window holds the bytes passed, and no value stood too often so far.
 use mathlib.Core.Path.{_≡_, refl, sym}
 use mathlib.Core.Bool.{Bool, true, false, cond}
-use mathlib.Core.List.{List, []}
+use mathlib.Core.List.{List}
 use mathlib.Core.Logic.{inl, inr}
 use Prim.Native.Nat.{ℕ, _+_, _-_, _%_, _≤_, _<_}
 use native.Mathlib.Nat.{le-refl, le-trans, eq-or-lt-of-le}
+use native.Mathlib.Numerals.{add-one}
 use native.Mathlib.Omega.{arith}
 use borrow.Author.Tests.{leb-true, leb-false, eqb-true, eq-eqb}
 use lib.Dec.{eqb, leb}
@@ -14,11 +15,11 @@ use Rattle.table.specs.Balanced.{at, count-of}
 use Rattle.screening.specs.declared.Report.the-variants.{Start, None}
 use Rattle.screening.specs.declared.Window.{Window}
 use Rattle.screening.specs.Report.{window, windows, faulty, report}
-use Rattle.screening.specs.Window.{latest, Holds, without}
+use Rattle.screening.specs.Window.{empty-window, without, with-one, fed-one, after, latest, Holds}
 use Rattle.screening.proofs.Occurrences.{count-front}
 use Rattle.screening.proofs.Latest.{latest-all, window-latest, window-whole}
 use Rattle.screening.proofs.Reports.{too-often, not-faulty, none-from, found-from, windows-count, windows-most}
-use Rattle.screening.proofs.Holding.{holds-next, leaves-counted, passing, next}
+use Rattle.screening.proofs.Holding.{holds-after, leaves-counted, passing, next}
 
 -- none of the fronts up to this length has a value more than 20 times among its latest bytes
 pub record Quiet (run : List ℕ) (i : ℕ) : Type 0 where
@@ -27,7 +28,7 @@ pub record Quiet (run : List ℕ) (i : ℕ) : Type 0 where
 pub record Fed (run : List ℕ) (held : Window) (i : ℕ) : Type 0 where
   pub bytes : (k : ℕ) → at run k < 256
   pub within : i ≤ length run
-  pub holds : Holds (take i run) held
+  pub fed : held ≡ after run i
   pub so-far : Quiet run i
 
 -- the report where none was too often
@@ -84,13 +85,13 @@ module _ (run : List ℕ) where
         (λ j z n. quiet-window i j q (omega arith) (omega arith)))
 
 module _ (run : List ℕ) where
-  pub fed-begins : (held : Window) → ((k : ℕ) → at run k < 256) → Holds [] held → Fed run held 0
-  unfolding latest count-of
+  pub fed-begins : (held : Window) → ((k : ℕ) → at run k < 256) → held ≡ empty-window → Fed run held 0
+  unfolding after latest count-of
   fed-begins held bytes h =
       record {
         bytes = bytes;
         within = omega arith;
-        holds = h;
+        fed = h;
         so-far = record {
           quiet = λ j v l b.
               let none : j ≡ 0 = omega arith in
@@ -104,21 +105,24 @@ module _ (run : List ℕ) where
       none-reported run (rw whole at (f .so-far))
 
   module _ (held : Window) (i : ℕ) (f : Fed run held i) (h : i < length run) where
+    holds : Holds (take i run) held
+    holds = rw (f .fed) (holds-after run (f .bytes) i (f .within))
+
     pub can-leave : 512 ≤ i → 0 < at (held .counts) (getD (held .ring) (i % 512) 0)
     unfolding at
-    can-leave = leaves-counted run (f .bytes) held i h (f .holds)
+    can-leave = leaves-counted run (f .bytes) held i h holds
 
     -- what the two calls told of the counts
     module _ (passed : List ℕ) (off : passed ≡ without i (getD (held .ring) (i % 512) 0) (held .counts)) where
       few : (v : ℕ) → v < 256 → at passed v ≤ 20
       unfolding at
       few v b =
-          let less = passing run (f .bytes) held i h (f .holds) .less v b in
-          rw off (omega (arith, less, f .holds .counted v b, f .so-far .quiet i v (le-refl i) b))
+          let less = passing run (f .bytes) held i h holds .less v b in
+          rw off (omega (arith, less, holds .counted v b, f .so-far .quiet i v (le-refl i) b))
 
       stood : (v : ℕ) → v < 256 → count-of v (latest (take (i + 1) run)) ≡ at passed v + cond (eqb (getD run i 0) v) 1 0
       unfolding at
-      stood v b = rw (next run (f .bytes) held i h (f .holds), off) (passing run (f .bytes) held i h (f .holds) .counted v b)
+      stood v b = rw (next run (f .bytes) held i h holds, off) (passing run (f .bytes) held i h holds .counted v b)
 
       pub can-come : at passed (getD run i 0) ≤ 20
       unfolding at
@@ -142,14 +146,14 @@ module _ (run : List ℕ) where
             quiet-by-cases true e = rw (← eqb-true (getD run i 0) v e, stood-often) l
             quiet-by-cases false e = rw (stood v b, e) (omega (arith, few v b))
 
-        pub fed-turns : (counts : List ℕ) (limit : ℕ) → counts ≡ set passed (getD run i 0) (at passed (getD run i 0) + 1) → limit ≤ 20 → often ≤ limit
+        pub fed-turns : (counts : List ℕ) (limit : ℕ) → counts ≡ with-one (getD run i 0) passed → limit ≤ 20 → often ≤ limit
             → Fed run (record { ring = set (held .ring) (i % 512) (getD run i 0); counts = counts }) (i + 1)
-        unfolding at
+        unfolding after fed-one at
         fed-turns counts limit e n l =
             record {
               bytes = f .bytes;
               within = omega arith;
-              holds = holds-next run (f .bytes) held i h (f .holds) counts (rw off at e);
+              fed = rw (add-one i, e, off, f .fed);
               so-far = record {
                 quiet = λ j v m b.
                     elim (eq-or-lt-of-le m) [ inl p ↦ rw p (quiet-next (le-trans l n) v b) | inr q ↦ f .so-far .quiet j v (omega arith) b ];

@@ -3,18 +3,18 @@ use mathlib.Core.Path.{_≡_, refl, sym, ap, _∙_}
 use mathlib.Core.Bool.{Bool, true, false, cond}
 use mathlib.Core.List.{List, [], _∷_, _++_}
 use mathlib.Core.Logic.{inl, inr}
-use Prim.Native.Nat.{ℕ, _+_, _-_, _%_, _≤_, _<_}
+use Prim.Native.Nat.{ℕ, zero, suc, _+_, _-_, _%_, _≤_, _<_}
 use native.Mathlib.Nat.{eq-or-lt-of-le}
 use native.Mathlib.Numerals.{add-one}
 use native.Mathlib.Omega.{arith}
 use borrow.Author.Tests.{ltb-true, ltb-false, lt-ltb, le-ltb, eqb-true, eqb-false}
 use lib.Dec.{eqb, ltb}
-use lib.ListN.{length, getD, take, set, replicate, length-set, length-replicate, getD-replicate}
+use lib.ListN.{length, getD, take, set, length-set, length-replicate, getD-replicate}
 use lib.Seq.{take-suc, getD-set-same, getD-set-other, length-take-le, getD-take}
 use Rattle.table.specs.Balanced.{at, count-of}
 use Rattle.table.proofs.Counts.{one-more}
 use Rattle.screening.specs.declared.Window.{Window}
-use Rattle.screening.specs.Window.{latest, Holds, without}
+use Rattle.screening.specs.Window.{empty-window, without, with-one, fed-one, after, latest, Holds}
 use Rattle.screening.proofs.Occurrences.{count-last}
 use Rattle.screening.proofs.Latest.{latest-open, latest-full, latest-first}
 
@@ -28,18 +28,18 @@ one-less counts e v h p = one-less-by-cases (eqb e v) refl
     one-less-by-cases true q = rw (← eqb-true e v q, getD-set-same counts e _ 0 h) (omega arith)
     one-less-by-cases false q = omega (arith, getD-set-other counts e v (getD counts e 0 - 1) 0 (λ p. eqb-false e v q (sym p)))
 
--- a byte leaves once 512 have come, and none before
-pub none-leaves : (come byte : ℕ) (counts : List ℕ) → come < 512 → counts ≡ without come byte counts
+-- a byte leaves from position 512 on, and none before
+pub none-leaves : (position byte : ℕ) (counts : List ℕ) → position < 512 → counts ≡ without position byte counts
 unfolding without
-none-leaves come byte counts h = rw (lt-ltb come 512 h)
+none-leaves position byte counts h = rw (lt-ltb position 512 h)
 
-pub one-leaves : (come byte : ℕ) (counts : List ℕ) → 512 ≤ come → set counts byte (getD counts byte 0 - 1) ≡ without come byte counts
+pub one-leaves : (position byte : ℕ) (counts : List ℕ) → 512 ≤ position → set counts byte (getD counts byte 0 - 1) ≡ without position byte counts
 unfolding without at
-one-leaves come byte counts h = rw (le-ltb come 512 h)
+one-leaves position byte counts h = rw (le-ltb position 512 h)
 
 -- nothing has come
-pub holds-nothing : Holds [] (record { ring = replicate 512 0; counts = replicate 256 0 })
-unfolding at count-of latest
+holds-nothing : Holds [] empty-window
+unfolding empty-window at count-of latest
 holds-nothing =
     record {
       ring-long = length-replicate {A = ℕ} 512 0;
@@ -135,15 +135,20 @@ module _ (run : List ℕ) (small : (k : ℕ) → at run k < 256) (held : Window)
       ])
 
   -- the window with the byte in it
-  pub holds-next : (counts : List ℕ) → counts ≡ set passed byte (at passed byte + 1)
-      → Holds (take (i + 1) run) (record { ring = set (held .ring) (i % 512) byte; counts = counts })
-  unfolding at
-  holds-next counts e =
+  pub holds-next : Holds (take (i + 1) run) (fed-one i (at run i) held)
+  unfolding fed-one with-one at
+  holds-next =
       let more : length (take (i + 1) run) ≡ i + 1 = length-take-le (i + 1) run (omega arith) in
       let room : byte < length passed = rw (passing .long) (small i) in
       record {
         ring-long = length-set (held .ring) (i % 512) _ ∙ holds .ring-long;
         recorded = λ k l m. recorded-next k (rw more at l) (rw more at m);
-        counts-long = rw e (length-set passed byte _ ∙ passing .long);
-        counted = λ v l. rw (e, next) (one-more passed byte v room ∙ sym (passing .counted v l));
+        counts-long = length-set passed byte _ ∙ passing .long;
+        counted = λ v l. rw next (one-more passed byte v room ∙ sym (passing .counted v l));
       }
+
+-- after each byte of a run
+pub holds-after : (run : List ℕ) → ((k : ℕ) → at run k < 256) → (i : ℕ) → i ≤ length run → Holds (take i run) (after run i)
+unfolding after
+holds-after run small zero h = holds-nothing
+holds-after run small (suc i) h = rw (← add-one i) (holds-next run small (after run i) i h (holds-after run small i (omega arith)))

@@ -3,7 +3,7 @@ use mathlib.Core.Path.{_≡_, refl, sym, ap, _∙_}
 use mathlib.Core.Bool.{cond}
 use mathlib.Core.List.{List, [], _∷_, _++_}
 use Prim.Native.Nat.{ℕ, zero, suc, _+_, _-_, _≤_}
-use native.Mathlib.Nat.{zero-add, add-zero, add-assoc, le-of-suc-le-suc, not-suc-le-zero}
+use native.Mathlib.Nat.{zero-add, add-zero, add-assoc}
 use native.Mathlib.Omega.{arith}
 use borrow.Author.Tests.{eq-eqb}
 use lib.Dec.{eqb}
@@ -39,9 +39,8 @@ count-part v size start run =
       count-append v (take start run) (drop start run),
     )
 
--- a front of a list of one value
-pub count-stuck : (v j size : ℕ) → j ≤ size → count-of v (take j (replicate size v)) ≡ j
+-- a list of one value
+pub count-same : (v size : ℕ) → count-of v (replicate size v) ≡ size
 unfolding count-of
-count-stuck v zero size h = refl
-count-stuck v (suc j) zero h = absurd (not-suc-le-zero h)
-count-stuck v (suc j) (suc size) h = rw (eq-eqb v v refl, count-stuck v j size (le-of-suc-le-suc h)) (omega arith)
+count-same v zero = refl
+count-same v (suc size) = rw (eq-eqb v v refl, count-same v size) (omega arith)

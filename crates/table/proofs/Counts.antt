@@ -45,7 +45,7 @@ one-more counts e v h = one-more-by-cases (eqb e v) refl
     one-more-by-cases false q = getD-set-other counts e v _ 0 (λ p. eqb-false e v q (sym p)) ∙ sym (add-zero _)
 
 -- no value stands in a list more often than the list is long
-count-within : (v : ℕ) (xs : List ℕ) → count-of v xs ≤ length xs
+pub count-within : (v : ℕ) (xs : List ℕ) → count-of v xs ≤ length xs
 unfolding count-of
 count-within v [] = omega arith
 count-within v (x ∷ xs) = count-within-by-cases (eqb x v) (count-within v xs)

@@ -10,7 +10,7 @@ use Rattle.refusals.specs.Tests.{any-from}
 unfoldable pub at : List ℕ → ℕ → ℕ
 at table i = getD table i 0
 
--- how often a value stands in a table
+-- how often a value stands in a list
 unfoldable pub count-of : (value : ℕ) → List ℕ → ℕ
 count-of v [] = 0
 count-of v (x ∷ xs) = cond (eqb x v) 1 0 + count-of v xs

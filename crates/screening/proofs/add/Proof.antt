@@ -3,6 +3,7 @@ use mathlib.Core.Path.{refl}
 use native.Mathlib.Omega.{arith}
 use borrow.Author.Needs.{needs}
 use Rattle.table.specs.Balanced.{at}
+use Rattle.screening.specs.Window.{with-one}
 use Rattle.screening.proofs.add.Statement.{statement}
 use Rattle.screening.proofs.add.Tie as tie
 
@@ -11,7 +12,7 @@ unfolding at
 add-often c = omega arith
 
 returns : tie.Need-returns
-unfolding at
+unfolding with-one at
 returns c = (refl, refl)
 
 pub add-spec : {M : Type 1} → statement M

@@ -9,10 +9,10 @@ use Rattle.screening.proofs.fed.Statement.{statement}
 use Rattle.screening.proofs.fed.Tie as tie
 
 abbrev Inv : tie.InvT-loop
-Inv run window₀ come₀ window come = Fed run window come
+Inv run window₀ position₀ window position = Fed run window position
 
 abbrev μ : tie.MeasureT-loop
-μ run window₀ come₀ window come = length run - come
+μ run window₀ position₀ window position = length run - position
 
 loop-holds : tie.Need-loop-holds Inv μ
 unfolding at
