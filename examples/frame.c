@@ -32,6 +32,7 @@ int main(void) {
     uint32_t refusal =
         cippazhey_encrypt_frame(plaintext, key1, key2, key3, random, sizeof random, scratch, sizeof scratch, share1, share2, share3);
     cippazhey_clear(random, sizeof random);
+    if (refusal == CIPPAZHEY_REFUSED_FAULTY_RANDOM) fprintf(stderr, "the random bytes are faulty\n");
     if (refusal != CIPPAZHEY_ACCEPTED) return 1;
     for (int place = 0; place < 16; place++) ciphertext[place] = share1[place] ^ share2[place] ^ share3[place];
     print_block("share 1", share1);

@@ -1,5 +1,5 @@
 // Cippazhey for C and C++: the masked table lookup on three shares, a whole AES-128 frame on three shares, the numbers of
-// their refusals, what their caller owes, and the call that clears a buffer.
+// their refusals, what their caller owes, the screening of random bytes, and the call that clears a buffer.
 // Link libcippazhey.a, which `make lib` writes to target/staticlib/. It needs memset and memcpy at most.
 #ifndef CIPPAZHEY_H
 #define CIPPAZHEY_H
@@ -24,6 +24,7 @@ enum cippazhey_refusal {
     CIPPAZHEY_REFUSED_OUTPUT_MASK = 11,     // s1 or s2 is 2^m or more
     CIPPAZHEY_REFUSED_BIT = 12,             // b is above 0 under method 2, or above 1 under method 3
     CIPPAZHEY_REFUSED_RANDOM_LENGTH = 26,   // a frame is not lent exactly 632 random bytes
+    CIPPAZHEY_REFUSED_FAULTY_RANDOM = 27,   // a value stands more than 20 times in 512 consecutive ones of these bytes
     CIPPAZHEY_REFUSED_SCRATCH_LENGTH = 13,  // scratch has fewer than 2^n bytes, for a frame fewer than 256
     CIPPAZHEY_REFUSED_DIRTY_SCRATCH = 19    // one of the first 2^n bytes of scratch is not zero; a frame clears them itself
 };
@@ -33,6 +34,9 @@ enum cippazhey_refusal {
 
 // A frame takes this many random bytes.
 #define CIPPAZHEY_RANDOM_LENGTH 632
+
+// What cippazhey_screen returns where no window of the run is faulty. No window of any run starts there.
+#define CIPPAZHEY_NO_FAULT UINT64_MAX
 
 // Looks up the secret x = x0 ^ r1 ^ r2 in a table of 2^n entries of m bits, without ever forming x.
 // Accepted, it returns the share table[x] ^ s1 ^ s2; s1 and s2 are the other two shares of table[x].
@@ -82,7 +86,8 @@ uint16_t cippazhey_plain_call(uint32_t method, uint32_t n, uint32_t m, uint32_t 
 //   plaintext           16 bytes; only read
 //   key1, key2, key3    the three shares of the key, which is key1 ^ key2 ^ key3, 16 bytes each; only read. Round constants
 //                       are added to key1's share of the round keys.
-//   random              632 bytes; only read. First r1 and r2 of the plaintext, 16 bytes each: its shares are
+//   random              632 bytes; only read. They are screened as by cippazhey_screen before anything else is made of
+//                       them. First come r1 and r2 of the plaintext, 16 bytes each: its shares are
 //                       plaintext ^ r1 ^ r2, r1, r2. Then s1, s2, r3 of each of the 200 lookups: in each of ten rounds, the
 //                       four bytes of the rotated key word (bytes 1, 2, 3, 0 of the last word) come before the sixteen of
 //                       the state, each in byte order.
@@ -96,26 +101,47 @@ uint16_t cippazhey_plain_call(uint32_t method, uint32_t n, uint32_t m, uint32_t 
 //   - Scratch and the three results overlap neither each other nor what is read, and nothing else touches any of them while
 //     the call runs.
 //   - The random bytes are uniform, independent, secret, and new for each frame: none is ever used twice. No call can check
-//     that. After the call they are cleared with cippazhey_clear: beside them, the first share of a byte that was looked up
-//     gives the byte away.
+//     that: the screen notices a value that comes far too often, and nothing else. After the call they are cleared with
+//     cippazhey_clear: beside them, the first share of a byte that was looked up gives the byte away.
+//   - A frame whose random bytes are faulty is tried again with 632 new ones. A good source is refused so almost never
+//     (docs/ASSURANCE.md says how often): one that is refused twice is taken out of service.
 //   - key2 and key3 are uniform, independent masks, new for each frame. A key that is kept in shares gets new ones without
 //     being joined: add two new masks to key1, one after the other, and one of them to key2, the other to key3.
 //
 // What is proved of the source:
 //   - Every call returns, and reads and writes only the bytes it is lent.
-//   - The refusal, the results and every byte of scratch are as the request for a frame lays them out. In every accepted
-//     frame the results join to the ciphertext of FIPS 197. A refused call writes nothing.
+//   - The refusal, the results and every byte of scratch are as the requests for a frame and for its screening lay them out.
+//     In every accepted frame the results join to the ciphertext of FIPS 197. A refused call writes nothing.
 //   - Any two of the values that the logs of one layer's sixteen lookups list tell nothing of the state, all masks being
 //     uniform and independent.
 // What is not proved: that of two values of a whole frame; how long a call takes; what the compiled code holds in registers
-// and memory. Its values were audited by twos, by a linear test, for the x86-64 archive and its compiler only.
-// What is not cleared: the call's own stack and registers, which held shares.
+// and memory. Its values were audited by twos, by a linear test, for the x86-64 archive and its compiler only. The screen's
+// counts are outside of all this: a count is made of many masks at once, and beside a masked value it can tell something
+// (docs/ASSURANCE.md).
+// What is not cleared: the call's own stack and registers, which held shares, random bytes and the screen's counts.
 //
-// Returned is the refusal. Only the number of random bytes and the length of scratch are refused, in this order. Refused,
-// scratch and the results stay as they were.
+// Returned is the refusal. Only the number of random bytes, a fault in them and the length of scratch are refused, in this
+// order. Refused, scratch and the results stay as they were.
 uint32_t cippazhey_encrypt_frame(const uint8_t plaintext[16], const uint8_t key1[16], const uint8_t key2[16],
                                  const uint8_t key3[16], const uint8_t *random, size_t random_length, uint8_t *scratch,
                                  size_t scratch_length, uint8_t share1[16], uint8_t share2[16], uint8_t share3[16]);
+
+// Screens a run of random bytes, byte after byte, so that a stuck noise source is noticed. The run is faulty if some value
+// stands more than 20 times in 512 consecutive bytes, a window; a run of fewer than 512 bytes is one window. Returned is the
+// first faulty window's start, counted from 0, or CIPPAZHEY_NO_FAULT. An empty run is not faulty. Nothing is refused.
+// A frame screens its random bytes itself; those of a single lookup are not screened.
+//
+//   run          only read; NULL is allowed only with length 0
+//   length       how many bytes run points to: any number
+//
+// What the caller owes: nothing writes to the run while the call runs.
+//
+// What is proved of the source: the call returns, and reads only the bytes it is lent; what it returns is the first faulty
+// window's start, as it is defined above.
+// What is not: that a run without a fault is random. No screen can notice a source that is predictable and even: one that
+// only counts up is not faulty. Nor is anything claimed of what the screen handles: its counts tell of many bytes at once,
+// and so may what it leaves on its stack.
+uint64_t cippazhey_screen(const uint8_t *run, size_t length);
 
 // Sets every byte of a buffer to zero: scratch, before the first lookup and after each. Nothing is refused.
 // A memset is not enough: a compiler may drop it where the buffer is not read again. It does not see into this call.

@@ -1,6 +1,6 @@
 // Audits the machine code of one call: `audit OPERANDS SUBJECT METHOD [exhaustive | linear] [without PART]`. Exhaustive at small widths, then
-// linear at n = m = 8, or one of both. Or of a whole frame, linear: `audit OPERANDS FRAME keys COUNT [without PART]`. OPERANDS is the table that
-// operands.py makes of this program's listing.
+// linear at n = m = 8, or one of both. Or of a whole frame, linear: `audit OPERANDS FRAME keys COUNT [without PART]`. Or of a screen, its way and
+// where it touches memory: `audit OPERANDS SCREEN runs [without PART]`. OPERANDS is the table that operands.py makes of this program's listing.
 // It exits with 0 where nothing leaks, with 1 where something does, with 2 where it can't tell, and says why: a wrong answer, control flow
 // that depends on the numbers, an instruction that is not known, code at n = m = 8 that no small width runs. 3 is for wrong usage.
 #include "columns.h"
@@ -9,6 +9,7 @@
 #include "operands.h"
 #include "parts.h"
 #include "probes.h"
+#include "screen.h"
 #include "subjects.h"
 
 #include <stdbool.h>
@@ -242,6 +243,9 @@ int main(int count, char **words) {
         int keys = atoi(words[4]);
         if (frame && keys > 1 && keys <= MOST_INPUTS && take_part(count - 5, words + 5) && read_operands(words[1]))
             return audit_frame(frame, (size_t)keys);
+    } else if (count >= 4 && !strcmp(words[3], "runs")) {
+        const struct screen *screen = screen_named(words[2]);
+        if (screen && take_part(count - 4, words + 4) && read_operands(words[1])) return audit_screen(screen);
     } else if (count >= 4) {
         uint32_t method = (uint32_t)atoi(words[3]);
         int next = 4;
@@ -252,6 +256,7 @@ int main(int count, char **words) {
             return audit(method, small, large);
     }
     fprintf(stderr, "usage: audit OPERANDS SUBJECT METHOD [exhaustive | linear] [without PART]\n"
-                    "       audit OPERANDS FRAME keys COUNT [without PART]\n");
+                    "       audit OPERANDS FRAME keys COUNT [without PART]\n"
+                    "       audit OPERANDS SCREEN runs [without PART]\n");
     return WRONG_USAGE;
 }

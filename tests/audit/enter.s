@@ -1,5 +1,5 @@
-# How a call is entered, and the memset that it is linked with. What the audit itself needs stands in variables of step.c: at entry the
-# registers hold the call's arguments and zeros, and memset leaves nothing on the call's stack.
+# How a call is entered, and the memset and memcpy that it is linked with. What the audit itself needs stands in variables of step.c: at
+# entry the registers hold the call's arguments and zeros, and memset leaves nothing on the call's stack.
     .text
 
     .globl audit_enter, audit_back
@@ -42,6 +42,29 @@ audited_memset:
     mov %r9, %rax
     int3
 audited_memset_done:
+    ret
+
+# memcpy is the firmware's too. What it copies are values of the call, so it is stepped through like the call's own code: 16 bytes at once,
+# as long as there are so many.
+    .globl audited_memcpy
+audited_memcpy:
+    mov %rdi, %rax
+    jmp 2f
+1:  movdqu (%rsi), %xmm0
+    movdqu %xmm0, (%rdi)
+    add $16, %rsi
+    add $16, %rdi
+    sub $16, %rdx
+2:  cmp $16, %rdx
+    jae 1b
+    jmp 4f
+3:  movb (%rsi), %cl
+    movb %cl, (%rdi)
+    inc %rsi
+    inc %rdi
+    dec %rdx
+4:  test %rdx, %rdx
+    jnz 3b
     ret
 
     .section .note.GNU-stack, "", @progbits

@@ -4,6 +4,7 @@
 #include "columns.h"
 #include "copies.h"
 #include "parts.h"
+#include "random.h"
 
 #include <stdbool.h>
 #include <stdio.h>
@@ -13,12 +14,6 @@ enum { SHARES = 3, RANDOM = 632, CLEARED = 256, SCRATCH = 300, MOST_STEPS = 1 <<
 
 static const uint8_t plaintext[BLOCK] = {0x00, 0x11, 0x22, 0x33, 0x44, 0x55, 0x66, 0x77, 0x88, 0x99, 0xaa, 0xbb, 0xcc, 0xdd, 0xee, 0xff};
 static uint8_t keys[MOST_INPUTS][BLOCK], key_shares[SHARES][BLOCK], random_bytes[RANDOM], scratch[SCRATCH], shares[SHARES][BLOCK];
-
-static uint8_t random_byte(void) {
-    static uint64_t state = 1181783497276652981u; // xorshift
-    state ^= state << 13, state ^= state >> 7, state ^= state << 17;
-    return (uint8_t)(state * 0x2545f4914f6cdd1du >> 56);
-}
 
 // The first key is that of FIPS 197's example, the others are drawn. False where the audit's own AES misses the example.
 static bool choose_keys(size_t count) {
@@ -39,7 +34,7 @@ static void choose_masks(const uint8_t key[BLOCK]) {
     for (int i = 0; i < RANDOM; i++) random_bytes[i] = random_byte();
 }
 
-// The shares join to the block, and the scratch is cleared.
+// The frame is accepted, its random bytes with it; the shares join to the block, and the scratch is cleared.
 static bool right_answer(unsigned rounds, const uint8_t key[BLOCK], uint64_t result) {
     static const uint8_t zeros[CLEARED];
     uint8_t expected[BLOCK], joined[BLOCK];

@@ -30,6 +30,7 @@ bool leave_out(const char *name) {
         [BESIDE_PART] = "beside",
         [LATER_PART] = "later",
         [COPIES_PART] = "copies",
+        [PACE_PART] = "pace",
     };
     for (int part = NO_PART + 1; part < PARTS; part++)
         if (!strcmp(names[part], name)) left_out = (enum part)part;

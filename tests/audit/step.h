@@ -56,8 +56,8 @@ runner step_through;
 enum { NAME_LENGTH = 24 };
 void name_place(uint32_t place, char name[NAME_LENGTH]);
 
-// How many places there are: each is below this.
-enum { PLACES = 720 };
+// How many places there are: each is below this. The first are the general registers, in the order of operands.h, 8 bytes each.
+enum { PLACES = 720, GENERAL_PLACES = 128 };
 
 // Where the value begins that a place is a byte of, and how many bytes it has: a register, or what is read or written at once.
 uint32_t value_at(uint32_t place, uint32_t *bytes);

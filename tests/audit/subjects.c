@@ -41,14 +41,28 @@
     each(answers)            \
     each(copies)
 
+// Those of code/screen.c and screen_controls.s.
+#define SCREENS(each)         \
+    each(ring_screen)         \
+    each(leaving_screen)      \
+    each(skipping_screen)     \
+    each(copying_screen)      \
+    each(moving_screen)       \
+    each(table_screen)        \
+    each(screen_control_flow) \
+    each(screen_control_answers)
+
 // Only their addresses are used: the arguments are laid out by hand.
 #define DECLARATION(name, cases) void control_##name(void);
 #define ROW(name, cases) {#name, control_##name, 0, cases, CONTROL},
 #define FRAME_DECLARATION(name) void frame_control_##name(void);
 #define FRAME_ROW(name) {"frame_" #name, frame_control_##name, 0},
+#define SCREEN_DECLARATION(name) void name(void);
+#define SCREEN_ROW(name) {#name, name},
 
 CONTROLS(DECLARATION)
 FRAME_CONTROLS(FRAME_DECLARATION)
+SCREENS(SCREEN_DECLARATION)
 void control_joined_leftovers(void);
 void control_single_leftovers(void);
 void control_early_exit(void);
@@ -58,6 +72,7 @@ void cippazhey_plain_call(void);
 void cippazhey_clear(void);
 void cippazhey_logged_call(void);
 void cippazhey_encrypt_frame(void);
+void cippazhey_screen(void);
 void guarded_frame(void);
 void unguarded_frame(void);
 void joined_frame(void);
@@ -100,5 +115,12 @@ const struct frame *frame_named(const char *name) {
                                           FRAME_CONTROLS(FRAME_ROW)};
     for (size_t i = 0; i < sizeof frames / sizeof *frames; i++)
         if (!strcmp(frames[i].name, name)) return &frames[i];
+    return NULL;
+}
+
+const struct screen *screen_named(const char *name) {
+    static const struct screen screens[] = {{"screen", cippazhey_screen}, SCREENS(SCREEN_ROW)};
+    for (size_t i = 0; i < sizeof screens / sizeof *screens; i++)
+        if (!strcmp(screens[i].name, name)) return &screens[i];
     return NULL;
 }

@@ -24,8 +24,15 @@ struct frame {
     unsigned rounds; // of AES
 };
 
+// A screen of random bytes, or a control that takes a screen's arguments.
+struct screen {
+    const char *name;
+    void (*code)(void);
+};
+
 // NULL where there is none
 const struct subject *subject_named(const char *name);
 const struct frame *frame_named(const char *name);
+const struct screen *screen_named(const char *name);
 
 #endif

@@ -19,7 +19,7 @@ enum {
     WRITTEN = READ + WIDEST,
     IMAGE = WRITTEN + WIDEST
 };
-_Static_assert((int)IMAGE == (int)PLACES, "every place has a number");
+_Static_assert((int)IMAGE == (int)PLACES && GENERAL == 0 && (int)FLAGS == (int)GENERAL_PLACES, "every place has a number");
 
 static uint8_t image[IMAGE];
 static uint8_t call_stack[STACK_ROOM] __attribute__((aligned(64)));

@@ -1,32 +1,15 @@
 // Frames in buffers that only the system can lend: groups of frame_test.c.
-#define _DEFAULT_SOURCE // for MAP_ANONYMOUS
+#define _DEFAULT_SOURCE // for sysconf
 #include "frame_buffers.h"
 
 #include "cippazhey.h"
 #include "frame_reference.h"
 #include "frame_trial.h"
+#include "pages.h"
 
-#include <stdlib.h>
 #include <string.h>
 #include <sys/mman.h>
 #include <unistd.h>
-
-static void protect(uint8_t *pages, size_t length, int protection) {
-    if (mprotect(pages, length, protection) != 0) {
-        record(false, "the system does not protect memory");
-        exit(1);
-    }
-}
-
-// Memory that can't be touched before it is allowed to.
-static uint8_t *lend(size_t length) {
-    void *lent = mmap(NULL, length, PROT_NONE, MAP_PRIVATE | MAP_ANONYMOUS | MAP_NORESERVE, -1, 0);
-    if (lent == MAP_FAILED) {
-        record(false, "the system lends no memory");
-        exit(1);
-    }
-    return lent;
-}
 
 // Long buffers.
 
@@ -35,7 +18,7 @@ enum { NEAR = 131072, WATCHED = 70000 };
 
 // Only the first bytes and those around the end can be touched.
 static uint8_t *lend_long_buffer(void) {
-    uint8_t *lent = lend(BEYOND_32_BITS + NEAR);
+    uint8_t *lent = lend_pages(BEYOND_32_BITS + NEAR);
     protect(lent, NEAR, PROT_READ | PROT_WRITE);
     protect(lent + BEYOND_32_BITS - NEAR, 2 * NEAR, PROT_READ | PROT_WRITE);
     return lent;
@@ -108,17 +91,21 @@ static bool frame_in_pages(uint8_t *pages[BUFFERS], size_t page_length, struct f
 }
 
 void ends_of_pages(void) {
-    const size_t lengths[][3] = {{632, 256, 0}, {632, 300, 0}, {631, 256, 26}, {633, 300, 26}, {632, 255, 13}, {0, 0, 26}, {632, 0, 13}};
+    const size_t lengths[][3] = {{632, 256, 0},  {632, 300, 0}, {631, 256, 26}, {633, 300, 26}, {632, 255, 13},
+                                 {632, 300, 27}, {632, 0, 27},  {0, 0, 26},     {632, 0, 13}};
     size_t page_length = (size_t)sysconf(_SC_PAGESIZE);
     uint8_t *pages[BUFFERS];
     for (int each = 0; each < BUFFERS; each++) {
-        pages[each] = lend(3 * page_length) + page_length;
+        pages[each] = lend_pages(3 * page_length) + page_length;
     }
-    for (int each = 0; each < 7; each++) {
+    for (int each = 0; each < 9; each++) {
         for (int run = 0; run < RUNS; run++) {
             struct frame_trial trial = accepted_frame();
             trial.random_length = lengths[each][0];
             trial.scratch_length = lengths[each][1];
+            if (lengths[each][2] == 27) {
+                memset(trial.random + below(600), 7, 21);
+            }
             uint32_t ends = run == 0 ? 0 : run == 1 ? 511 : below(512);
             record(frame_in_pages(pages, page_length, trial, (uint32_t)lengths[each][2], ends), "frame at the ends of pages");
         }

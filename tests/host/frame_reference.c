@@ -1,8 +1,9 @@
-// A whole AES-128 frame in plain C, written from FIPS 197 and the request for it alone. It is made to be read, not to be fast or to hide
-// anything. A byte is an array of its three shares; all round keys are made before the first round.
+// A whole AES-128 frame in plain C, written from FIPS 197 and the requests for it and its screening alone. It is made to be read, not to be
+// fast or to hide anything. A byte is an array of its three shares; all round keys are made before the first round.
 #include "frame_reference.h"
 
 #include "aes.h"
+#include "screen_reference.h"
 
 #include <string.h>
 
@@ -111,9 +112,12 @@ static void encrypt(uint8_t state[BLOCK][SHARES], uint8_t words[WORDS][4][SHARES
     clear(lent);
 }
 
-static uint32_t refusal(size_t random_length, size_t scratch_length) {
+static uint32_t refusal(const uint8_t *random, size_t random_length, size_t scratch_length) {
     if (random_length != RANDOM_LENGTH) {
         return 26;
+    }
+    if (reference_screen(random, random_length) != UINT64_MAX) {
+        return 27;
     }
     if (scratch_length < SCRATCH_LENGTH) {
         return 13;
@@ -124,7 +128,7 @@ static uint32_t refusal(size_t random_length, size_t scratch_length) {
 uint32_t reference_encrypt_frame(const uint8_t plaintext[16], const uint8_t key1[16], const uint8_t key2[16],
                                  const uint8_t key3[16], const uint8_t *random, size_t random_length, uint8_t *scratch,
                                  size_t scratch_length, uint8_t share1[16], uint8_t share2[16], uint8_t share3[16]) {
-    uint32_t number = refusal(random_length, scratch_length);
+    uint32_t number = refusal(random, random_length, scratch_length);
     if (number != 0) {
         return number;
     }

@@ -4,6 +4,7 @@
 #include "aes.h"
 #include "cippazhey.h"
 #include "frame_buffers.h"
+#include "frame_faults.h"
 #include "frame_reference.h"
 #include "frame_trial.h"
 #include "frame_watch.h"
@@ -20,8 +21,6 @@
 
 enum { MASKINGS = 50, STORED = 32 };
 
-static const uint8_t zeros[BLOCK];
-
 // FIPS 197, appendices B and C.1: plaintext, key and ciphertext.
 
 static const uint8_t figures[2][3][BLOCK] = {
@@ -37,14 +36,17 @@ static bool same(const uint8_t block[BLOCK], const uint8_t other[BLOCK]) {
     return memcmp(block, other, BLOCK) == 0;
 }
 
-// Without masks the first share is the ciphertext, and the others are zero.
-static void without_masks(frame_call *call, const uint8_t figure[3][BLOCK], const char *what) {
+// Where each second mask is the first, they cancel: the first share is the ciphertext, and the others are alike.
+static void masks_cancelled(frame_call *call, const uint8_t figure[3][BLOCK], const char *what) {
     struct frame_trial trial = accepted_frame();
-    memset(trial.key, 0, sizeof trial.key);
-    memset(trial.random, 0, sizeof trial.random);
+    memcpy(trial.key[2], trial.key[1], BLOCK);
+    memcpy(trial.random + BLOCK, trial.random, BLOCK);
+    for (int mask = 2 * BLOCK; mask < RANDOM_LENGTH; mask += 3) {
+        trial.random[mask + 1] = trial.random[mask];
+    }
     set_plaintext_and_key(&trial, figure[0], figure[1]);
     bool accepted = make_frame(call, &trial) == CIPPAZHEY_ACCEPTED;
-    record(accepted && same(trial.share[0], figure[2]) && same(trial.share[1], zeros) && same(trial.share[2], zeros), what);
+    record(accepted && same(trial.share[0], figure[2]) && same(trial.share[1], trial.share[2]), what);
 }
 
 static void with_masks(frame_call *call, const uint8_t figure[3][BLOCK], const char *what) {
@@ -59,8 +61,8 @@ static void fips_197(void) {
         uint8_t ciphertext[BLOCK];
         aes_encrypt(figures[each][0], figures[each][1], ciphertext);
         record(same(ciphertext, figures[each][2]), "FIPS 197, the cipher without shares");
-        without_masks(reference_encrypt_frame, figures[each], "FIPS 197, the reference without masks");
-        without_masks(cippazhey_encrypt_frame, figures[each], "FIPS 197 without masks");
+        masks_cancelled(reference_encrypt_frame, figures[each], "FIPS 197, the reference with masks that cancel");
+        masks_cancelled(cippazhey_encrypt_frame, figures[each], "FIPS 197 with masks that cancel");
         for (int masking = 0; masking < MASKINGS; masking++) {
             with_masks(reference_encrypt_frame, figures[each], "FIPS 197, the reference");
             with_masks(cippazhey_encrypt_frame, figures[each], "FIPS 197");
@@ -162,10 +164,11 @@ static const struct group groups[] = {
     {"fips_197", fips_197, 2 * (3 + 2 * MASKINGS)},
     {"stored_frames", stored_frames, 2 * STORED},
     {"refusals", refusals, 5501},
+    {"faulty_random", faulty_random, FAULTY_RANDOM},
     {"contents_of_scratch", contents_of_scratch, 556},
     {"in_a_row", in_a_row, 10},
     {"long_buffers", long_buffers, 40},
-    {"ends_of_pages", ends_of_pages, 84},
+    {"ends_of_pages", ends_of_pages, 108},
     {"watched_scratch", watched_scratch, 1208},
     {"random_frames", random_frames, RANDOM_FRAMES},
 };

@@ -1,6 +1,6 @@
-// The header against the archive, in C and in C++: the calls' types, each number of the enum, both lengths, the names of the parameters,
-// and the helpers. Prints a line for each that is wrong; exits with 1 if one is. Compile it with CALL_BY_NAME, FRAME_BY_NAME and
-// CLEAR_BY_NAME, calls whose arguments are the names of the parameters in the header's order.
+// The header against the archive, in C and in C++: the calls' types, each number of the enum, both lengths, what no fault is, the names of
+// the parameters, and the helpers. Prints a line for each that is wrong; exits with 1 if one is. Compile it with CALL_BY_NAME,
+// FRAME_BY_NAME, SCREEN_BY_NAME and CLEAR_BY_NAME, calls whose arguments are the names of the parameters in the header's order.
 #include "cippazhey.h"
 #include "cippazhey.h" // twice, for its guard
 
@@ -14,6 +14,8 @@ static plain_call *const typed_call = cippazhey_plain_call;
 typedef uint32_t frame_call(const uint8_t *, const uint8_t *, const uint8_t *, const uint8_t *, const uint8_t *, size_t, uint8_t *, size_t,
                             uint8_t *, uint8_t *, uint8_t *);
 static frame_call *const typed_frame = cippazhey_encrypt_frame;
+typedef uint64_t screen_call(const uint8_t *, size_t);
+static screen_call *const typed_screen = cippazhey_screen;
 typedef void clear_call(uint8_t *, size_t);
 static clear_call *const typed_clear = cippazhey_clear;
 
@@ -138,6 +140,9 @@ static void encrypted_frame(void) {
         named[3][place] = (uint8_t)(200 - 5 * place);
         named[1][place] = (uint8_t)(place ^ named[2][place] ^ named[3][place]);
     }
+    for (int place = 0; place < CIPPAZHEY_RANDOM_LENGTH + 1; place++) {
+        random[place] = (uint8_t)(7 * place);
+    }
     memcpy(placed, named, sizeof named);
     uint32_t by_place = typed_frame(placed[0], placed[1], placed[2], placed[3], random, random_length, scratch, scratch_length, placed[4],
                                     placed[5], placed[6]);
@@ -152,8 +157,30 @@ static void encrypted_frame(void) {
     uint32_t fewer = frame_by_name(named, random, random_length - 1, scratch_length);
     uint32_t more = frame_by_name(named, random, random_length + 1, scratch_length);
     uint32_t shorter = frame_by_name(named, random, random_length, scratch_length - 1);
+    memset(random, 7, sizeof random);
+    uint32_t faulty = frame_by_name(named, random, random_length, scratch_length);
     hold(fewer == CIPPAZHEY_REFUSED_RANDOM_LENGTH && more == fewer, "refusal of other random lengths", (int)fewer);
     hold(shorter == CIPPAZHEY_REFUSED_SCRATCH_LENGTH, "refusal of shorter scratch", (int)shorter);
+    hold(faulty == CIPPAZHEY_REFUSED_FAULTY_RANDOM, "refusal of faulty random bytes", (int)faulty);
+}
+
+static uint64_t screened(const uint8_t *run, size_t length) {
+    return SCREEN_BY_NAME;
+}
+
+// 21 equal bytes are a fault; behind 600 others the last of them ends the first faulty window.
+static void screened_run(void) {
+    static uint8_t bytes[621];
+    hold(screened(bytes, 0) == CIPPAZHEY_NO_FAULT, "screen of no bytes", 0);
+    hold(screened(bytes, 20) == CIPPAZHEY_NO_FAULT, "screen of bytes", 20);
+    hold(screened(bytes, 21) == 0, "screen of bytes", 21);
+    for (int place = 0; place < 600; place++) {
+        bytes[place] = (uint8_t)(1 + place % 255);
+    }
+    hold(screened(bytes, 620) == CIPPAZHEY_NO_FAULT, "screen of bytes", 620);
+    hold(screened(bytes, 621) == 621 - 512, "screen of bytes", 621);
+    hold(typed_screen(bytes, 621) == 621 - 512, "screen by place", 621);
+    hold(CIPPAZHEY_NO_FAULT == (uint64_t)-1, "what no fault is", 0);
 }
 
 static void cleared_buffer(void) {
@@ -172,6 +199,7 @@ int main(void) {
     places_of_the_numbers();
     stated_scratch_length();
     encrypted_frame();
+    screened_run();
     cleared_buffer();
     return wrong;
 }

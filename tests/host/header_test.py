@@ -21,9 +21,14 @@ SOURCE = ROOT / "crates" / "cippazhey" / "src" / "lib.rt"
 PROGRAM = ROOT / "tests" / "host" / "header_test.c"
 COMPILERS = {"c": ["cc", "-std=c99", "-x", "c"], "c++": ["c++", "-std=c++11", "-x", "c++"]}
 # The functions of the archive, and the macros by which the program calls them.
-CALLS = {"cippazhey_plain_call": "CALL_BY_NAME", "cippazhey_encrypt_frame": "FRAME_BY_NAME", "cippazhey_clear": "CLEAR_BY_NAME"}
+CALLS = {
+    "cippazhey_plain_call": "CALL_BY_NAME",
+    "cippazhey_encrypt_frame": "FRAME_BY_NAME",
+    "cippazhey_screen": "SCREEN_BY_NAME",
+    "cippazhey_clear": "CLEAR_BY_NAME",
+}
 # In the order of checking, which the header's list has.
-REFUSALS = [0, 2, 3, 4, 5, 6, 7, 10, 11, 12, 26, 13, 19]
+REFUSALS = [0, 2, 3, 4, 5, 6, 7, 10, 11, 12, 26, 27, 13, 19]
 WARNINGS = ["-Wall", "-Wextra", "-Wpedantic", "-Werror"]
 # What the source's parameters and results are in C. A slice is a pointer and a length, an array a pointer; columns of a block follow each
 # other.
@@ -36,7 +41,7 @@ PARAMETER = {
     "&[[u8; 4]; 4]": "const uint8_t {name}[16]",
     "&mut [[u8; 4]; 4]": "uint8_t {name}[16]",
 }
-RESULT = {"": "void", "u16": "uint16_t", "u32": "uint32_t"}
+RESULT = {"": "void", "u16": "uint16_t", "u32": "uint32_t", "u64": "uint64_t"}
 
 
 # The header's declarations, by the function's name. The functions that it defines are not among them.
@@ -105,9 +110,16 @@ EDITS = [
     (C, "#define CIPPAZHEY_SCRATCH_LENGTH 256", "#define CIPPAZHEY_SCRATCH_LENGTH 65536"),
     (C, "#define CIPPAZHEY_RANDOM_LENGTH 632", "#define CIPPAZHEY_RANDOM_LENGTH 631"),
     (C + CPP, "#define CIPPAZHEY_RANDOM_LENGTH 632", "#define CIPPAZHEY_RANDOM_LENGTH 633"),
+    (C + CPP, "#define CIPPAZHEY_NO_FAULT UINT64_MAX", "#define CIPPAZHEY_NO_FAULT UINT32_MAX"),
+    (C + CPP, "#define CIPPAZHEY_NO_FAULT UINT64_MAX", "#define CIPPAZHEY_NO_FAULT 0"),
+    (C + CPP, "#define CIPPAZHEY_NO_FAULT UINT64_MAX", "#define CIPPAZHEY_NO_FAULT INT64_MAX"),
+    (C, "#define CIPPAZHEY_NO_FAULT UINT64_MAX", ""),
     (C, "CIPPAZHEY_ACCEPTED = 0", "CIPPAZHEY_ACCEPTED = 1"),
     (C + CPP, "CIPPAZHEY_REFUSED_RANDOM_LENGTH = 26", "CIPPAZHEY_REFUSED_RANDOM_LENGTH = 27"),
     (C + CPP, "CIPPAZHEY_REFUSED_RANDOM_LENGTH = 26", "CIPPAZHEY_REFUSED_RANDOM_LENGTH"),
+    (DECLARATION + C + CPP, "CIPPAZHEY_REFUSED_FAULTY_RANDOM = 27", "CIPPAZHEY_REFUSED_FAULTY_RANDOM = 26"),
+    (DECLARATION + C + CPP, "CIPPAZHEY_REFUSED_FAULTY_RANDOM = 27", "CIPPAZHEY_REFUSED_FAULTY_RANDOM = 28"),
+    (DECLARATION + C + CPP, "    CIPPAZHEY_REFUSED_FAULTY_RANDOM = 27,", ""),
     (C + CPP, "CIPPAZHEY_REFUSED_DIRTY_SCRATCH = 19", "CIPPAZHEY_REFUSED_DIRTY_SCRATCH = 13"),
     (C + CPP, "CIPPAZHEY_REFUSED_DIRTY_SCRATCH = 19", "CIPPAZHEY_REFUSED_DIRTY_SCRATCH = 14"),
     (C + CPP, "CIPPAZHEY_REFUSED_DIRTY_SCRATCH = 19", "CIPPAZHEY_REFUSED_DIRTY_SCRATCH"),
@@ -150,6 +162,19 @@ EDITS_OF_CALLS = {
         (DECLARATION + C, ", uint8_t share3[16]", ""),
         (DECLARATION + C, "const uint8_t key1[16]", "const uint8_t key[16]"),
         (DECLARATION + C + CPP, "cippazhey_encrypt_frame(", "cippazhey_frame("),
+    ],
+    "cippazhey_screen": [
+        (DECLARATION + C + CPP, "uint64_t cippazhey_screen", "uint32_t cippazhey_screen"),
+        (DECLARATION + C + CPP, "uint64_t cippazhey_screen", "int64_t cippazhey_screen"),
+        (DECLARATION + C + CPP, "uint64_t cippazhey_screen", "void cippazhey_screen"),
+        (DECLARATION + C + CPP, "const uint8_t *run", "uint8_t *run"),
+        (DECLARATION + C + CPP, "const uint8_t *run", "const void *run"),
+        (DECLARATION + C + CPP, "const uint8_t *run", "const uint8_t *bytes"),
+        (DECLARATION + C + CPP, "size_t length", "uint32_t length"),
+        (DECLARATION + C + CPP, "size_t length", "size_t run_length"),
+        (DECLARATION + C + CPP, "const uint8_t *run, size_t length", "size_t length, const uint8_t *run"),
+        (DECLARATION + C + CPP, "const uint8_t *run, size_t length", "const uint8_t *run"),
+        (DECLARATION + C + CPP, "cippazhey_screen(", "cippazhey_screening("),
     ],
     "cippazhey_clear": [
         (DECLARATION + C + CPP, "void cippazhey_clear", "int cippazhey_clear"),

@@ -21,6 +21,7 @@ OTHERS = {
     "log_entries::put": "the kinds and values of a row, slices of any length",
     "buffers::clear": "a buffer of any length",
     "frame_rounds::ten": "the rounds",
+    "screening::fed": "a run of any length",
 }
 
 

@@ -17,16 +17,20 @@ from edits import edited
 # Fewer random frames than the test has are enough here.
 COMPILE = ["cc", "-std=c99", "-O1", f"-I{HOST}", f"-I{HOST.parents[1] / 'include'}", "-DRANDOM_FRAMES=300"]
 # The test, and the other calls of the archive, which it makes too.
-TEST = ("frame_test", "frame_buffers", "frame_trial", "frame_watch", "numbers", "groups", "aes", "wrong_call", "reference")
+TEST = ("frame_test", "frame_faults", "frame_buffers", "frame_trial", "frame_watch", "screen_reference", "runs", "pages", "numbers")
+TEST += ("groups", "aes", "wrong_call", "reference")
 EXPORTED = "-Dreference_encrypt_frame=cippazhey_encrypt_frame"
 
 # The reference's lines that the edits put something before.
-CHECK = "    uint32_t number = refusal(random_length, scratch_length);\n"
+CHECK = "    uint32_t number = refusal(random, random_length, scratch_length);\n"
 REFUSED = "    if (number != 0) {\n        return number;"
 RANDOM_CHECK = "    if (random_length != RANDOM_LENGTH) {\n"
 ENCRYPT = "    encrypt(state, words, (struct lent){random, scratch});\n"
 RESULT = "        share1[place] = state[place][0];\n"
 # What they replace.
+SCREEN = "reference_screen(random, random_length)"
+SCREENED = f"    if ({SCREEN} != UINT64_MAX) {{\n        return 27;\n    }}\n"
+SHORT = "    if (scratch_length < SCRATCH_LENGTH) {\n        return 13;\n    }\n"
 MASKS = "lent.random + 32 + 3 * (20 * (round - 1) + j)"
 NAMED_MASKS = "s1 = masks[0], s2 = masks[1], r3 = masks[2]"
 CONSTANT = "word[0][0] ^= round_constant(round);"
@@ -50,6 +54,12 @@ def before(line, *added):
 # What is done at each byte, up to a length.
 def each_byte(length, statement):
     return f"for (size_t at = 0; at < {length}; at++) {{ {statement} }}"
+
+
+# Another screen: so many of a value at most, in so many consecutive bytes.
+def screened_by(most, window):
+    look = f"for (size_t at = start; at < start + {window}; at++) {{ if (++counts[random[at]] > {most}) {{ return 27; }} }}"
+    return SCREENED, f"for (size_t start = 0; start + {window} <= random_length; start++) {{ int counts[256] = {{0}}; {look} }}\n"
 
 
 # A byte is read, whatever it is.
@@ -115,6 +125,32 @@ REFUSALS = {
     "scratch cleared on refusal": before(REFUSED, "if (number == 26 && scratch_length > 0) { memset(scratch, 0, scratch_length); }"),
     "the last byte of a short scratch": before(REFUSED, "if (number == 13 && scratch_length > 0) { scratch[scratch_length - 1] ^= 1; }"),
 }
+FAULTS = {
+    "27 left out": (SCREENED, ""),
+    "27 after 13": (SCREENED + SHORT, SHORT + SCREENED),
+    "27 before 26": before(RANDOM_CHECK, SCREENED),
+    "26 for 27": ("return 27;", "return 26;"),
+    "13 for 27": ("return 27;", "return 13;"),
+    "all refused by 27": (f"{SCREEN} != UINT64_MAX", f"{SCREEN} <= UINT64_MAX"),
+    "only the first window screened": (SCREEN, "reference_screen(random, 512)"),
+    "only the last window screened": (SCREEN, "reference_screen(random + 120, 512)"),
+    "the first byte not screened": (SCREEN, "reference_screen(random + 1, 631)"),
+    "the last byte not screened": (SCREEN, "reference_screen(random, 631)"),
+    "only the lookups' masks screened": (SCREEN, "reference_screen(random + 32, 600)"),
+    "only a fault at the start": (f"{SCREEN} != UINT64_MAX", f"{SCREEN} == 0"),
+    "only a fault behind the start": (f"{SCREEN} != UINT64_MAX", f"{SCREEN} - 1 < 120"),
+    "19 of a value at most": screened_by(19, 512),
+    "21 of a value at most": screened_by(21, 512),
+    "windows of 511": screened_by(20, 511),
+    "windows of 513": screened_by(20, 513),
+    "all random bytes as one window": screened_by(20, 632),
+    "results written on 27": before(REFUSED, "if (number == 27) { memset(share2, 0, 16); }"),
+    "scratch cleared on 27": before(REFUSED, "if (number == 27) { memset(scratch, 0, scratch_length); }"),
+    "random bytes cleared on 27": before(REFUSED, "if (number == 27) { memset((uint8_t *)random, 0, random_length); }"),
+    "the frame after it refused": before(
+        REFUSED, "static uint32_t last;", "if (last == 27 && number == 0) { last = 0; return 27; }", "last = number;"
+    ),
+}
 CONTENTS = {
     "scratch not cleared after the last lookup": (LAST_CLEAR, LAST_CLEAR.replace("    clear(lent);\n", "")),
     "255 bytes cleared": (CLEAR, CLEAR.replace("SCRATCH_LENGTH", "255")),
@@ -143,6 +179,7 @@ LONG_BUFFERS = {
 ENDS_OF_PAGES = {
     "random byte 632 read": reads("random[632]"),
     "the byte before the random ones read": reads("random[-1]"),
+    "random byte 632 screened": (SCREEN, "reference_screen(random, random_length + 1)"),
     "plaintext's byte 16 read": reads("plaintext[16]"),
     "the byte before the first key share read": reads("key1[-1]"),
     "byte 16 of the third key share read": reads("key3[16]"),
@@ -182,6 +219,7 @@ RANDOM_FRAMES = {
 WRONG_FRAMES = {
     "fips_197": OTHER_CIPHERS,
     "refusals": REFUSALS,
+    "faulty_random": FAULTS,
     "contents_of_scratch": CONTENTS,
     "in_a_row": IN_A_ROW,
     "long_buffers": LONG_BUFFERS,
@@ -193,6 +231,7 @@ COMMON_FAULTS = {
     "stored_frames": OTHER_SHARES,
     "fips_197": {name: OTHER_CIPHERS[name] for name in ("rows shifted the other way", "columns mixed in the last round")},
     "refusals": {name: REFUSALS[name] for name in ("13 before 26", "results written on refusal", "scratch cleared on refusal")},
+    "faulty_random": FAULTS,
     "contents_of_scratch": {name: CONTENTS[name] for name in ("scratch not cleared after the last lookup", "tail cleared too")},
     "random_frames": {name: OTHER_CIPHERS[name] for name in ("rows shifted the other way", "round constants not reduced")},
 }

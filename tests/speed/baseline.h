@@ -24,6 +24,9 @@ LOGGED_CALL(guarded_logged_call);
 PLAIN_CALL(baseline_bare_call);
 PLAIN_CALL(guarded_bare_call);
 
+// The start of the first faulty window, or all ones.
+uint64_t baseline_screen(const uint8_t *run, size_t length);
+
 // The frame, with barriers only. The parameters and the refusal are those of the exported call.
 uint32_t guarded_frame(const uint8_t plaintext[16], const uint8_t key1[16], const uint8_t key2[16], const uint8_t key3[16],
                        const uint8_t *random, size_t random_length, uint8_t *scratch, size_t scratch_length, uint8_t share1[16],

@@ -122,6 +122,7 @@ uint32_t guarded_frame(const uint8_t plaintext[16], const uint8_t key1[16], cons
                        uint8_t share2[16], uint8_t share3[16]) {
     block state[SHARES], key[SHARES];
     if (random_length != RANDOM_LENGTH) return 26;
+    if (baseline_screen(random, random_length) != UINT64_MAX) return 27;
     if (scratch_length < SCRATCH_LENGTH) return 13;
     memcpy(state[0], plaintext, 16);
     memcpy(state[1], random, 16);

@@ -1,7 +1,7 @@
-// Compares the frame in C with the proved one, then encrypts one kind of frame many times, for callgrind to count, or times both kinds
-// beside each other. The status is 1 where they differ.
-// frame_speed KIND TIMES   KIND: one of the kinds of encrypt(), or none
-// frame_speed time         a table of nanoseconds a frame
+// Compares the frame and the screening in C with the proved ones, then makes one kind of call many times, for callgrind to count, or times
+// all kinds beside each other. The status is 1 where they differ.
+// frame_speed KIND TIMES   KIND: one of the kinds of call(), or none
+// frame_speed time         a table of nanoseconds a call
 #include "baseline.h"
 #include "stopwatch.h"
 #include <cippazhey.h>
@@ -9,10 +9,10 @@
 #include <stdlib.h>
 #include <string.h>
 
-// How many frames are compared, and what is timed: each round encrypts so many frames of each kind.
-enum { KINDS = 2, COMPARED = 5, ROUNDS = 200, FRAMES = 20 };
+// How many frames are compared, and what is timed: each round makes so many calls of each kind.
+enum { KINDS = 4, COMPARED = 5, ROUNDS = 200, CALLS = 20 };
 
-static const char *const kinds[KINDS] = {"frame", "guarded_frame"};
+static const char *const kinds[KINDS] = {"frame", "guarded_frame", "screen", "baseline_screen"};
 
 struct frame {
     uint8_t plaintext[16], key[3][16], random[632], scratch[256], share[3][16];
@@ -22,9 +22,12 @@ struct frame {
     name(f->plaintext, f->key[0], f->key[1], f->key[2], f->random, sizeof f->random, f->scratch, sizeof f->scratch, f->share[0], \
          f->share[1], f->share[2])
 
-static uint32_t encrypt(const char *kind, struct frame *f) {
+// The refusal of a frame, or whether its random bytes are faulty.
+static uint32_t call(const char *kind, struct frame *f) {
     if (!strcmp(kind, "frame")) return ENCRYPT(cippazhey_encrypt_frame);
     if (!strcmp(kind, "guarded_frame")) return ENCRYPT(guarded_frame);
+    if (!strcmp(kind, "screen")) return cippazhey_screen(f->random, sizeof f->random) != CIPPAZHEY_NO_FAULT;
+    if (!strcmp(kind, "baseline_screen")) return baseline_screen(f->random, sizeof f->random) != CIPPAZHEY_NO_FAULT;
     return 0; // the harness alone
 }
 
@@ -40,27 +43,41 @@ static int agree(void) {
     for (int i = 0; i < COMPARED; i++) {
         draw(&one);
         other = one;
-        if (encrypt(kinds[0], &one) || encrypt(kinds[1], &other) || memcmp(&one, &other, sizeof one)) return 0;
+        if (call("frame", &one) || call("guarded_frame", &other) || memcmp(&one, &other, sizeof one)) return 0;
     }
     return 1;
 }
 
+// Whether both screens find the same start, and both frames are refused: 21 of a value behind each other, in each place.
+static int agree_on_faults(void) {
+    static struct frame f, drawn;
+    draw(&drawn);
+    for (size_t at = 0; at + 21 <= sizeof f.random; at++) {
+        f = drawn;
+        memset(f.random + at, 7, 21);
+        uint64_t start = cippazhey_screen(f.random, sizeof f.random);
+        if (start == CIPPAZHEY_NO_FAULT || start != baseline_screen(f.random, sizeof f.random)) return 0;
+        if (call("frame", &f) != CIPPAZHEY_REFUSED_FAULTY_RANDOM || call("guarded_frame", &f) != CIPPAZHEY_REFUSED_FAULTY_RANDOM) return 0;
+    }
+    return !call("screen", &drawn) && !call("baseline_screen", &drawn);
+}
+
 static void run(const char *kind, struct frame *f, long times) {
     for (long i = 0; i < times; i++) {
-        if (encrypt(kind, f)) exit(3);
+        if (call(kind, f)) exit(3);
         f->plaintext[0]++;
     }
 }
 
-// The best time of each kind. Every round times both, so that other work on the machine slows none alone.
+// The best time of each kind. Every round times all, so that other work on the machine slows none alone.
 static void print_times(struct frame *f) {
     double best[KINDS];
     for (int kind = 0; kind < KINDS; kind++) best[kind] = 1e18;
     for (int round = 0; round < ROUNDS; round++) {
         for (int kind = 0; kind < KINDS; kind++) {
             double from = nanoseconds_now();
-            run(kinds[kind], f, FRAMES);
-            double time = (nanoseconds_now() - from) / FRAMES;
+            run(kinds[kind], f, CALLS);
+            double time = (nanoseconds_now() - from) / CALLS;
             if (time < best[kind]) best[kind] = time;
         }
     }
@@ -69,12 +86,14 @@ static void print_times(struct frame *f) {
 
 int main(int count, char **words) {
     static struct frame f;
-    if (!agree()) {
-        fprintf(stderr, "the frame in C and the proved one differ\n");
+    int counted = count == 3;
+    // where calls are counted, refused ones would be counted too
+    if (!agree() || (!counted && !agree_on_faults())) {
+        fprintf(stderr, "the frame or the screening in C and the proved one differ\n");
         return 1;
     }
     draw(&f);
-    if (count == 3) {
+    if (counted) {
         run(words[1], &f, atol(words[2]));
     } else {
         print_times(&f);

@@ -1,4 +1,4 @@
-# What a frame's instructions are for: the turns of its lookups, clearing, and the rest.
+# What a frame's instructions are for: the turns of its lookups, clearing, and the rest, in which the screening is.
 # Run: python3 tests/speed/parts.py PROGRAM FUNCTION prints the three numbers of one call of the function. PROGRAM is a frame_speed that is
 # linked at fixed addresses, as objdump prints them; callgrind counts the frames that it compares before it does anything else.
 import collections
@@ -6,7 +6,7 @@ import re
 import subprocess
 import sys
 
-# What runs so often in a frame is in the turns: there are 51200 of them, and of all else at most 200.
+# What runs so often in a frame is in the turns: there are 51200 of them, and of all else at most 632, one for each random byte.
 OFTEN = 1000
 OPTIONS = ("--tool=callgrind", "--dump-instr=yes", "--compress-pos=no", "--compress-strings=no")
 
