@@ -118,7 +118,8 @@ uint16_t cippazhey_plain_call(uint32_t method, uint32_t n, uint32_t m, uint32_t 
 // and memory. Its values were audited by twos, by a linear test, for the x86-64 archive and its compiler only. The screen's
 // counts are outside of all this: a count is made of many masks at once, and beside a masked value it can tell something
 // (docs/ASSURANCE.md).
-// What is not cleared: the call's own stack and registers, which held shares, random bytes and the screen's counts.
+// What is not cleared: the call's own stack and registers. They held shares; and the screen's copy of the last 512 random
+// bytes stays there, with their counts, as far as the call does not use that stack again: clearing random does not clear it.
 //
 // Returned is the refusal. Only the number of random bytes, a fault in them and the length of scratch are refused, in this
 // order. Refused, scratch and the results stay as they were.
@@ -137,10 +138,10 @@ uint32_t cippazhey_encrypt_frame(const uint8_t plaintext[16], const uint8_t key1
 // What the caller owes: nothing writes to the run while the call runs.
 //
 // What is proved of the source: the call returns, and reads only the bytes it is lent; what it returns is the first faulty
-// window's start, as it is defined above.
+// window's start, as it is defined above, or CIPPAZHEY_NO_FAULT where no window is faulty.
 // What is not: that a run without a fault is random. No screen can notice a source that is predictable and even: one that
-// only counts up is not faulty. Nor is anything claimed of what the screen handles: its counts tell of many bytes at once,
-// and so may what it leaves on its stack.
+// only counts up is not faulty. Nor is anything claimed of what the screen handles: its counts tell of many bytes at once.
+// What is not cleared: the call's own stack, where a copy of the last 512 bytes stays, with their counts.
 uint64_t cippazhey_screen(const uint8_t *run, size_t length);
 
 // Sets every byte of a buffer to zero: scratch, before the first lookup and after each. Nothing is refused.
