@@ -135,7 +135,7 @@ module _ (run : List ℕ) (small : (k : ℕ) → at run k < 256) (held : Window)
       ])
 
   -- the window with the byte in it
-  pub holds-next : Holds (take (i + 1) run) (fed-one i (at run i) held)
+  holds-next : Holds (take (i + 1) run) (fed-one i (at run i) held)
   unfolding fed-one with-one at
   holds-next =
       let more : length (take (i + 1) run) ≡ i + 1 = length-take-le (i + 1) run (omega arith) in
