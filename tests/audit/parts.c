@@ -31,6 +31,7 @@ bool leave_out(const char *name) {
         [LATER_PART] = "later",
         [COPIES_PART] = "copies",
         [PACE_PART] = "pace",
+        [READING_PART] = "reading",
     };
     for (int part = NO_PART + 1; part < PARTS; part++)
         if (!strcmp(names[part], name)) left_out = (enum part)part;

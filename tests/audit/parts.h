@@ -29,6 +29,7 @@ enum part {
     LATER_PART,        // what the first call leaves as it is and a later one changes
     COPIES_PART,       // copied instructions do what the code does
     PACE_PART,         // of a screen, few instructions a byte
+    READING_PART,      // of a screen, each byte is read once
     PARTS
 };
 

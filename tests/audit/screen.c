@@ -1,4 +1,4 @@
-// A screen under many runs of one length: its calls, whether they can be judged, and where each touches memory.
+// A screen under many runs of one length: its calls, whether they can be judged, where each touches memory, and what each byte takes.
 #include "screen.h"
 #include "copies.h"
 #include "frame.h"
@@ -6,6 +6,7 @@
 #include "parts.h"
 #include "probes.h"
 #include "random.h"
+#include "watch.h"
 
 #include <stdbool.h>
 #include <stdio.h>
@@ -110,6 +111,17 @@ static bool of_one_byte(const struct study *study, size_t at) {
     return false;
 }
 
+// Whether each byte of the run is read once, one after the other, in the first call. What leaves the window then comes from a record.
+static bool reads_once(const struct study *study) {
+    size_t read = 0;
+    for (size_t at = 0; at < study->count; at++) {
+        uint64_t place = study->addresses[0][at] - (uintptr_t)run;
+        if (place >= study->length) continue;
+        if (place != read++) return false;
+    }
+    return read == study->length;
+}
+
 static size_t leaking_addresses(const struct study *study) {
     size_t leaking = 0;
     for (size_t at = 0; at < study->count && watches(ADDRESSES_PART); at++) {
@@ -126,35 +138,49 @@ static int audit_length(const struct screen *screen, size_t length) {
     printf("%s, %d runs of %lu bytes\n", screen->name, RUNS, (unsigned long)length);
     start_trace(&study.trace, whole, MOST_STEPS);
     choose_runs(length);
-    if (make_calls(&study, screen)) found = leaking_addresses(&study) ? LEAKS : SILENT;
+    if (make_calls(&study, screen)) {
+        found = leaking_addresses(&study) ? LEAKS : SILENT;
+        if (watches(READING_PART) && !reads_once(&study)) found = UNKNOWN, printf("    the run is not read once\n");
+    }
     end_trace(&study.trace);
     free(study.instructions);
     for (size_t number = 0; number < RUNS; number++) free(study.addresses[number]);
     return found;
 }
 
-// Makes a call on a run; whether it can be judged, and how many instructions it takes.
-static bool count_instructions(const struct screen *screen, size_t length, size_t *instructions) {
+// What a call takes: its instructions, and how often it clears memory.
+struct cost {
+    size_t instructions, clearings;
+};
+
+// Makes a call on a run; whether it can be judged.
+static bool take_cost(const struct screen *screen, size_t length, struct cost *cost) {
     struct trace trace;
     start_trace(&trace, whole, MOST_STEPS);
     memcpy(run, runs[0], length);
     const char *trouble = one_call(run_copies, &trace, screen, length);
     if (trouble) printf("    %s: a run of %lu bytes\n", trouble, (unsigned long)length);
-    *instructions = trace.steps;
+    *cost = (struct cost){trace.steps, 0};
+    for (size_t step = 0; step < trace.steps; step++) cost->clearings += trace.addresses[step] == (uintptr_t)audited_memset;
     end_trace(&trace);
     return !trouble;
 }
 
-// Whether each byte more takes few instructions more.
+// Whether each byte more takes few instructions more and clears nothing, from the first on.
 static bool keeps_pace(const struct screen *screen) {
-    enum { MORE = LONGEST / 2 };
-    size_t some, all;
+    static const size_t lengths[] = {0, 632, LONGEST / 2, LONGEST};
+    struct cost cost, before;
     choose_runs(LONGEST);
-    if (!count_instructions(screen, LONGEST - MORE, &some) || !count_instructions(screen, LONGEST, &all)) return false;
-    printf("%s, %d bytes more: %ld instructions more\n", screen->name, MORE, (long)all - (long)some);
-    if (all < some + MORE * MOST_A_BYTE) return true;
-    printf("    too many instructions a byte\n");
-    return false;
+    for (size_t i = 0; i < sizeof lengths / sizeof *lengths; i++, before = cost) {
+        if (!take_cost(screen, lengths[i], &cost)) return false;
+        printf("%s, %lu bytes: %lu instructions\n", screen->name, (unsigned long)lengths[i], (unsigned long)cost.instructions);
+        if (i == 0) continue;
+        bool slow = cost.instructions >= before.instructions + (lengths[i] - lengths[i - 1]) * MOST_A_BYTE;
+        if (slow) printf("    too many instructions a byte\n");
+        if (cost.clearings > before.clearings) printf("    bytes clear memory\n");
+        if (slow || cost.clearings > before.clearings) return false;
+    }
+    return true;
 }
 
 int audit_screen(const struct screen *screen) {

@@ -47,7 +47,10 @@
     each(leaving_screen)      \
     each(skipping_screen)     \
     each(copying_screen)      \
+    each(starting_screen)     \
+    each(filling_screen)      \
     each(moving_screen)       \
+    each(rereading_screen)    \
     each(table_screen)        \
     each(screen_control_flow) \
     each(screen_control_answers)

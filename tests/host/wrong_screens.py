@@ -1,7 +1,8 @@
 # The control of tests/host/screen_test.c: wrong screens, each of which the group named beside it must notice. A wrong screen is a right one
 # with an edit, exported in the place of the archive's call. In a common fault it is the reference that has the edit, and stands in both
-# places: what is known of a run has to notice it. Run: python3 tests/host/wrong_screens.py (status 0 if the right screens pass whole and
-# every wrong one is noticed, 1 otherwise, with a line for each that is not).
+# places: what is known of a run has to notice it; and it has to notice a reference that alone is wrong.
+# Run: python3 tests/host/wrong_screens.py (status 0 if the right screens pass whole and every wrong one is noticed, 1 otherwise, with a line
+# for each that is not).
 import signal
 import subprocess
 import sys
@@ -222,15 +223,18 @@ def build(*words):
 
 
 def build_objects(folder):
-    for name in (*TEST, "screen_reference"):
+    for name in TEST:
         build("-c", HOST / f"{name}.c", "-o", folder / f"{name}.o")
 
 
-# The test program over a screen, run on a group, or on all. In a common fault the screen is also what it is compared with.
-def run(folder, screen, *group, common=False):
+# The test program over a screen, run on a group, or on all. It is compared with a reference, or in a common fault with itself.
+def run(folder, screen, reference, *group):
     (folder / "screen.c").write_text(screen)
-    objects = [folder / f"{name}.o" for name in TEST]
-    build(folder / "screen.c", *objects, COMMON if common else folder / "screen_reference.o", "-o", folder / "test")
+    compared = COMMON
+    if reference:
+        compared = folder / "reference.c"
+        compared.write_text(reference)
+    build(folder / "screen.c", *(folder / f"{name}.o" for name in TEST), compared, "-o", folder / "test")
     return subprocess.run([folder / "test", *group], capture_output=True, text=True, timeout=60)
 
 
@@ -239,18 +243,32 @@ def noticed(done):
     return done.returncode == -signal.SIGSEGV or (done.returncode == 1 and "DIFFERS: " in done.stdout)
 
 
+# Screen and reference of each kind of wrong one, by its edit; what is edited, and how many must have been tried.
+REFERENCE = (HOST / "screen_reference.c").read_text()
+KINDS = {
+    "wrong screens": (lambda *edit: (edited(RIGHT, *edit), REFERENCE), WRONG_SCREENS, 79),
+    "common faults": (lambda *edit: (edited(REFERENCE, *edit), None), COMMON_FAULTS, 14),
+    "wrong references": (lambda *edit: (RIGHT, edited(REFERENCE, *edit)), COMMON_FAULTS, 14),
+}
+
+
 def complaints(folder):
     build_objects(folder)
-    reference = (HOST / "screen_reference.c").read_text()
-    for common, right, groups in ((False, RIGHT, WRONG_SCREENS), (True, reference, COMMON_FAULTS)):
-        if run(folder, right, common=common).returncode != 0:
-            yield f"the right one does not pass, {common=}"
-        for group, screens in groups.items():
-            for name, (old, new) in screens.items():
-                done = run(folder, edited(right, old, new), group, common=common)
+    for right in ((RIGHT, REFERENCE), (REFERENCE, None)):
+        done = run(folder, *right)
+        if noticed(done) or done.returncode != 0:
+            yield "a right one does not pass"
+    for kind, (made, groups, number) in KINDS.items():
+        tried = 0
+        for group, edits in groups.items():
+            for name, edit in edits.items():
+                done = run(folder, *made(*edit), group)
+                tried += 1
                 if not noticed(done):
-                    yield f"{name}, {common=}: {group} does not notice it\n{done.stdout}"
-        print(sum(map(len, groups.values())), "common faults" if common else "wrong screens")
+                    yield f"{kind}, {name}: {group} does not notice it\n{done.stdout}"
+        print(tried, kind)
+        if tried != number:
+            yield f"{tried} {kind} were tried, and not {number}"
 
 
 end_control(complaints)

@@ -1,7 +1,9 @@
 -- What is promised of what C gets of a frame and of a report holds.
 use mathlib.Core.Path.{_≡_, refl, ap}
-use Prim.Native.Nat.{ℕ, _<_}
+use mathlib.Core.List.{List}
+use Prim.Native.Nat.{ℕ, _^_, _<_}
 use native.Mathlib.Omega.{arith}
+use lib.ListN.{length}
 use Rattle.refusals.specs.Left.{left}
 use Rattle.frame.specs.Frame.{encrypted, frame-reply}
 use Rattle.frame.specs.Promises.{ciphertext, Frame-right}
@@ -22,9 +24,9 @@ exported-right p k1 k2 k3 random scratch old1 old2 old3 hp h1 h2 h3 small e =
 
 pub report-told : Report-told
 unfolding Report-told Report-right Says exported-report no-fault
-report-told run h = by-cases (report run) (report-right run .0)
+report-told = (refl, λ run h. by-cases run h (report run) (report-right run .0))
   where
-    by-cases : (r : Report) → Says run r
+    by-cases : (run : List ℕ) → length run < 2 ^ 64 → (r : Report) → Says run r
         → (exported-report r ≡ no-fault → r ≡ None) × ((start : ℕ) → exported-report r ≡ start → start < no-fault → r ≡ Start start)
-    by-cases (Start k) s = (λ e. absurd (omega (arith, s .0, windows-most run)), λ start e l. ap Start e)
-    by-cases None s = (λ e. refl, λ start e l. absurd (omega arith))
+    by-cases run h (Start k) s = (λ e. absurd (omega (arith, s .0, windows-most run)), λ start e l. ap Start e)
+    by-cases run h None s = (λ e. refl, λ start e l. absurd (omega arith))

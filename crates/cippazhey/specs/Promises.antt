@@ -1,7 +1,7 @@
 -- What is promised of what C gets of a frame and of a report. Each is a type; its proof stands in proofs/Promises.antt.
 use mathlib.Core.Path.{_≡_}
 use mathlib.Core.List.{List, [], _∷_}
-use Prim.Native.Nat.{ℕ, _^_, _<_}
+use Prim.Native.Nat.{ℕ, _+_, _^_, _<_}
 use lib.ListN.{length}
 use Rattle.bits.specs.Xor.{_⊕_}
 use Rattle.table.specs.Balanced.{at}
@@ -24,9 +24,10 @@ Exported-right =
     ⊕ at (exported-share 2 p k1 k2 k3 random scratch old3) i)
     ≡ flat (cipher p (joined (k1 ∷ k2 ∷ k3 ∷ [])))
 
--- a start is never all ones, so the number tells which report it is: no run in memory has 2^64 bytes
+-- the number for none is 64 ones, and a start is never that, so the number tells which report it is: no run in memory has 2^64 bytes
 unfoldable pub Report-told : Type 0
 Report-told =
-    (run : List ℕ) → length run < 2 ^ 64
+    (no-fault + 1 ≡ 2 ^ 64)
+    × ((run : List ℕ) → length run < 2 ^ 64
     → (exported-report (report run) ≡ no-fault → report run ≡ None)
-    × ((start : ℕ) → exported-report (report run) ≡ start → start < no-fault → report run ≡ Start start)
+    × ((start : ℕ) → exported-report (report run) ≡ start → start < no-fault → report run ≡ Start start))

@@ -3,7 +3,10 @@
 //   -DLEAVING    and a zero byte ends it
 //   -DSKIPPING   and a byte that takes its like's place is not counted
 //   -DCOPYING    and all of the record is copied for each byte
+//   -DSTARTING   and it is copied for each of the first 632 bytes
+//   -DFILLING    and as much memory is cleared for each byte
 //   -DMOVING     and all of the record is moved by one place for each byte
+//   -DREREADING  and the byte that leaves is taken from the run, not from the record
 //   -DTABLE      and a table says which counts are too high
 #include <stddef.h>
 #include <stdint.h>
@@ -43,13 +46,21 @@ static int too_often(uint16_t count) {
 }
 
 // The record for the next byte: the same, or a copy.
-static struct window *next(struct window *window, struct window *one, struct window *other) {
+static struct window *next(struct window *window, struct window *one, struct window *other, size_t at) {
+#ifdef FILLING
+    memset(other, 0, sizeof *other);
+#endif
+#if defined COPYING || defined STARTING
+    size_t copied = 632;
 #ifdef COPYING
+    copied = SIZE_MAX;
+#endif
+    if (at >= copied) return window;
     struct window *copy = window == one ? other : one;
     memcpy(copy, window, sizeof *copy);
     return copy;
 #endif
-    return (void)one, (void)other, window;
+    return (void)one, (void)other, (void)at, window;
 }
 
 // Puts a byte in the place of the one that leaves.
@@ -70,8 +81,11 @@ uint64_t SCREEN(const uint8_t *run, size_t length) {
     struct window one, other, *window = &one;
     memset(window, 0, sizeof *window);
     for (size_t at = 0; at < length && !ends(run[at]); at++) {
-        window = next(window, &one, &other);
+        window = next(window, &one, &other, at);
         uint8_t byte = run[at], leaving = replace(window, at, byte);
+#ifdef REREADING
+        leaving = at >= BYTES ? run[at - BYTES] : 0;
+#endif
         if (skipped(at, leaving, byte)) continue;
         if (at >= BYTES) window->counts[leaving]--;
         if (too_often(++window->counts[byte])) return at < BYTES ? 0 : at - BYTES + 1;
