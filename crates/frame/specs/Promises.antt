@@ -1,7 +1,7 @@
 -- What is promised of a frame. Each is a type; its proof stands in proofs/Promises.antt.
 use mathlib.Core.Path.{_≡_}
-use mathlib.Core.List.{List, [], _∷_, _++_}
 use mathlib.Core.Bool.{true, false}
+use mathlib.Core.List.{List, [], _∷_, _++_}
 use Prim.Native.Nat.{ℕ, _+_, _*_, _/_, _%_, _≤_, _<_}
 use lib.ListN.{length, take, drop, replicate}
 use Rattle.bits.specs.Xor.{_⊕_}
