@@ -1,11 +1,13 @@
 # Runs the linked bench program on sheets, and compares what it prints and its exit status with the model: from files, through a pipe in
-# pieces that it must read one by one, on input longer than it can hold, and on random and mutated input.
+# pieces that it must read one by one, on input longer than it can hold, on random and mutated input, and at a terminal, where alone it says
+# what it waits for, on standard error.
 # Run: python3 tests/host/bench_test.py PROGRAM, or with --control behind it for wrong programs, each of which a way must notice.
 # The status is 0, or 1 where something differs, is missing or goes unnoticed.
 import contextlib
 import fcntl
 import itertools
 import os
+import pty
 import random
 import signal
 import subprocess
@@ -21,25 +23,26 @@ import sheets
 LONGEST_RUN = 20  # seconds
 
 
-# Standard input and output are files, used again for each run: starting the program is most of the work.
-def run_on_files(stdin, stdout, command, text):
-    for file, content in ((stdin, text), (stdout, b"")):
+# Standard input, output and error are files, used again for each run: starting the program is most of the work.
+def run_on_files(files, command, text):
+    for file, content in zip(files, (text, b"", b""), strict=True):
         file.seek(0)
         file.truncate()
         file.write(content)
         file.seek(0)
-    actions = [(os.POSIX_SPAWN_DUP2, stdin.fileno(), 0), (os.POSIX_SPAWN_DUP2, stdout.fileno(), 1)]
+    actions = [(os.POSIX_SPAWN_DUP2, file.fileno(), number) for number, file in enumerate(files)]
     signal.alarm(LONGEST_RUN)
     _, status = os.waitpid(os.posix_spawn(command[0], command, os.environ, file_actions=actions), 0)
     signal.alarm(0)
-    stdout.seek(0)
-    return os.waitstatus_to_exitcode(status), stdout.read()
+    printed, said = (os.pread(file.fileno(), 1 << 20, 0) for file in files[1:])
+    return os.waitstatus_to_exitcode(status), printed, said
 
 
 def from_files(command, texts):
-    with tempfile.TemporaryFile(buffering=0) as stdin, tempfile.TemporaryFile(buffering=0) as stdout:
+    with contextlib.ExitStack() as stack:
+        files = [stack.enter_context(tempfile.TemporaryFile(buffering=0)) for _ in range(3)]
         for text in texts:
-            yield text, *run_on_files(stdin, stdout, command, text)
+            yield text, *run_on_files(files, command, text)
 
 
 # Single bytes at first, then larger pieces.
@@ -55,16 +58,34 @@ def unread(pipe):
 # The next piece is written when the last one was read, so that no read gets two of them.
 def in_pieces(command, texts):
     for text in texts:
-        process = subprocess.Popen(command, stdin=subprocess.PIPE, stdout=subprocess.PIPE, bufsize=0)
+        process = subprocess.Popen(command, stdin=subprocess.PIPE, stdout=subprocess.PIPE, stderr=subprocess.PIPE, bufsize=0)
         signal.alarm(LONGEST_RUN)
         with contextlib.suppress(BrokenPipeError):  # a wrong program may end before it has read all
             for piece in pieces(text):
                 process.stdin.write(piece)
                 while unread(process.stdin) and process.poll() is None:
                     os.sched_yield()
-        printed, _ = process.communicate()
+        printed, said = process.communicate()
         signal.alarm(0)
-        yield text, process.returncode, printed
+        yield text, process.returncode, printed, said
+
+
+# What a terminal hands on as it was typed, a line at a time, until Ctrl-D.
+def typed_texts():
+    yield from (b"", b"waiting\n", sheets.SAMPLE, sheets.sheet(sheets.P2, sheets.TABLE_A))
+
+
+def at_terminal(command, texts):
+    for text in texts:
+        ours, theirs = pty.openpty()
+        process = subprocess.Popen(command, stdin=theirs, stdout=subprocess.PIPE, stderr=subprocess.PIPE)
+        os.close(theirs)
+        signal.alarm(LONGEST_RUN)
+        os.write(ours, text + b"\x04")
+        printed, said = process.communicate()
+        signal.alarm(0)
+        os.close(ours)
+        yield text, process.returncode, printed, said
 
 
 def long_texts():
@@ -83,17 +104,20 @@ WAYS = {
     "pieces": (in_pieces, sheets.all_sheets, 305),
     "long": (from_files, long_texts, 1),
     "mutated": (from_files, mutated_texts, 20000),
+    "terminal": (at_terminal, typed_texts, 4),
 }
+WAITING = b"waiting for a case sheet (docs/REFERENCE.md has its form); Ctrl-D ends it\n"
 
 
 # How many inputs were compared, and those on which the program differs from the model.
 def compare(way, command, limit=None):
     run, texts, _ = WAYS[way]
     compared, differing = 0, []
-    for text, status, printed in run(command, itertools.islice(texts(), limit)):
+    wanted = WAITING if way == "terminal" else b""
+    for text, status, printed, said in run(command, itertools.islice(texts(), limit)):
         compared += 1
-        if (status, printed) != (0, model.bench(text)):
-            differing.append(f"{way}: differs on {text[:80]!r}: status {status}, {printed[:60]!r}")
+        if (status, printed, said) != (0, model.bench(text), wanted):
+            differing.append(f"{way}: differs on {text[:80]!r}: status {status}, {printed[:60]!r}, {said[:60]!r}")
     return compared, differing
 
 
@@ -115,6 +139,9 @@ WRONG = [
     ("only the first read", "pieces", 20, 'dd bs=4096 count=1 2>/dev/null | "$0"'),
     ("only the front of long input", "long", 1, 'head -c 51 | "$0"'),
     ("bytes from 128 on as spaces", "mutated", 400, r"""tr '\200-\377' ' ' | "$0" """),
+    ("silence at a terminal", "terminal", 4, 'cat | "$0"'),
+    ("what is said at a terminal, printed", "terminal", 4, '"$0" 2>&1'),
+    ("a word where there is no terminal", "files", 20, 'echo waiting >&2; "$0"'),
     *(("the status", way, 20, '"$0"; exit 3') for way in WAYS),
     *(("a signal", way, 20, '"$0"; kill -KILL $$') for way in WAYS),
 ]
