@@ -1,45 +1,81 @@
-# `make` proves everything and builds what a user links or runs; `make test` is the gate.
-.PHONY: all lib bench demo sbox audit speed test
+# `make` proves everything and builds what a user links or runs; `make test` is the gate; `make help` says what else there is.
+.PHONY: all lib bench demo sbox audit speed test install uninstall clean help
 
 # the case sheet that `make bench` prints
 SHEET = examples/p1.sheet
+# where things are installed; DESTDIR stands before it, for packages that are put together elsewhere
+PREFIX = /usr/local
+DESTDIR =
 
-all: lib
-	rt check
+archive = target/staticlib/libcippazhey.a
+program = target/bin/bench
+installed = $(addprefix $(DESTDIR)$(PREFIX)/,lib/libcippazhey.a include/cippazhey.h lib/pkgconfig/cippazhey.pc bin/cippazhey-bench)
+part_of_version = $(shell sed -n 's/^\#define CIPPAZHEY_VERSION_$(1) //p' include/cippazhey.h)
+version = $(call part_of_version,MAJOR).$(call part_of_version,MINOR).$(call part_of_version,PATCH)
+# what is shown of long work counts from here
+export STARTED := $(shell date +%s)
+# rt's own words are kept, and shown where it fails
+rt_in = @mkdir -p target; .ci/progress target/$(1).log rt $(2) || { cat target/$(1).log; exit 1; }
 
-# target/staticlib/libcippazhey.a, whose header is include/cippazhey.h
-lib:
-	@mkdir -p target
-	@rt staticlib cippazhey > target/lib.log 2>&1 || { cat target/lib.log; exit 1; }
+all: ## proves every crate, builds the archive for C and the programs, and runs the programs
+	@.ci/tools rt
+	$(call rt_in,check,check)
+	$(call rt_in,lib,staticlib cippazhey)
 
-# the log of a case sheet, printed by the proved program; where the program is gone, it is linked again
-bench:
-	@mkdir -p target
-	@test -x target/bin/bench || rm -f target/stamp/bench
-	@rt check bench > target/bench.log 2>&1 || { cat target/bench.log; exit 1; }
-	@target/bin/bench < $(SHEET)
+# `rt check` proves several crates at a time, `rt staticlib` one
+lib: ## target/staticlib/libcippazhey.a, whose header is include/cippazhey.h
+	@.ci/tools rt
+	$(call rt_in,lib,check cippazhey)
+	$(call rt_in,lib,staticlib cippazhey)
 
-# masked lookups and a whole frame from C, on the proved archive
-demo: lib
-	@cc -std=c99 -O2 -Wall -Wextra -Iinclude examples/lookup.c target/staticlib/libcippazhey.a -o target/demo
-	@cc -std=c99 -O2 -Wall -Wextra -Iinclude examples/frame.c target/staticlib/libcippazhey.a -o target/demo_frame
+# where a program is gone, it is linked again
+bench: ## the log of a case sheet (SHEET=..), printed by the proved program
+	@.ci/tools rt
+	@test -x $(program) || rm -f target/stamp/bench
+	$(call rt_in,bench,check bench)
+	@$(program) < $(SHEET)
+
+demo: ## masked lookups and a whole frame from C, on the proved archive
+	@.ci/tools x86-64 rt cc
+	@$(MAKE) --no-print-directory lib
+	@cc -std=c99 -O2 -Wall -Wextra -Iinclude examples/lookup.c $(archive) -o target/demo
+	@cc -std=c99 -O2 -Wall -Wextra -Iinclude examples/frame.c $(archive) -o target/demo_frame
 	@target/demo && target/demo_frame
 
-# the S-box of FIPS 197, printed by the proved program
-sbox:
-	@mkdir -p target
+sbox: ## the S-box of FIPS 197, printed by the proved program
+	@.ci/tools rt
 	@test -x target/bin/sbox_print || rm -f target/stamp/sbox_print
-	@rt check sbox_print > target/sbox.log 2>&1 || { cat target/sbox.log; exit 1; }
+	$(call rt_in,sbox,check sbox_print)
 	@target/bin/sbox_print
 
-# what the machine code does with the masks, an instruction at a time, the frame with three times the gate's keys; x86-64 Linux only
-audit: lib
-	@rt staticlib test_logged_export > target/logged.log 2>&1 || { cat target/logged.log; exit 1; }
-	@tests/audit/run 9 && cat target/audit/plain_2.log target/audit/plain_3.log target/audit/frame.log
+# the frame with three times the gate's keys
+audit: ## what the machine code does with the masks, an instruction at a time; x86-64 Linux only
+	@.ci/tools x86-64 rt cc objcopy objdump python3
+	@$(MAKE) --no-print-directory lib
+	$(call rt_in,logged,staticlib test_logged_export)
+	@.ci/progress target/audit.log tests/audit/run 9 || { grep -v ': ok$$' target/audit.log; exit 1; }
+	@cat target/audit/plain_2.log target/audit/plain_3.log target/audit/frame.log
 
-# the tables of docs/PERFORMANCE.md; needs valgrind
-speed:
+speed: ## the tables of docs/PERFORMANCE.md
+	@.ci/tools x86-64 rt cc python3 valgrind
 	@tests/speed/run
 
-test:
-	.ci/run
+test: ## the gate: everything proved anew, every wrong edit tried, all tests and audits run. It begins by removing target/
+	@.ci/run
+
+install: ## what `make` has built, into PREFIX (/usr/local), with DESTDIR before it
+	@test -f $(archive) -a -f $(program) || { echo 'there is nothing to install yet: run `make` first'; exit 1; }
+	install -d $(dir $(installed))
+	install -m 644 $(archive) $(word 1,$(installed))
+	install -m 644 include/cippazhey.h $(word 2,$(installed))
+	sed -e 's|@PREFIX@|$(PREFIX)|' -e 's|@VERSION@|$(version)|' include/cippazhey.pc.in > $(word 3,$(installed))
+	install -m 755 $(program) $(word 4,$(installed))
+
+uninstall: ## removes what `make install` puts there; takes the same PREFIX and DESTDIR
+	rm -f $(installed)
+
+clean: ## removes target/, all that was built
+	rm -rf target
+
+help: ## this list
+	@sed -n 's/^\([a-z]*\):.*## \(.*\)/make \1|\2/p' Makefile | while IFS='|' read -r name text; do printf '%-15s %s\n' "$$name" "$$text"; done

@@ -1,6 +1,7 @@
 // Cippazhey for C and C++: the masked table lookup on three shares, a whole AES-128 frame on three shares, the numbers of
 // their refusals, what their caller owes, the screening of random bytes, and the call that clears a buffer.
 // Link libcippazhey.a, which `make lib` writes to target/staticlib/. It needs memset and memcpy at most.
+// docs/REFERENCE.md has the numbers in each call's order of checking, both methods step by step, and the masks.
 #ifndef CIPPAZHEY_H
 #define CIPPAZHEY_H
 
@@ -10,6 +11,11 @@
 #ifdef __cplusplus
 extern "C" {
 #endif
+
+// A changed call or refusal raises the minor number.
+#define CIPPAZHEY_VERSION_MAJOR 0
+#define CIPPAZHEY_VERSION_MINOR 1
+#define CIPPAZHEY_VERSION_PATCH 0
 
 // Why a call is refused. The order of this list is the order of checking, and the first that applies is returned.
 enum cippazhey_refusal {
@@ -64,8 +70,8 @@ enum cippazhey_refusal {
 //
 // What is proved of the source:
 //   - Every call returns, and reads and writes only the bytes it is lent.
-//   - The result and every byte of scratch are as the scope document and its request for clean scratch lay them out. A
-//     refused call writes nothing.
+//   - The result and every byte of scratch are what the definitions in specs/ make of the arguments and of the scratch;
+//     docs/REFERENCE.md has them in words. A refused call writes nothing.
 //   - Any two of the values that the method's log lists tell nothing of the secret, for every balanced table and all widths.
 // What is not proved:
 //   - How long a call takes.
@@ -110,8 +116,9 @@ uint16_t cippazhey_plain_call(uint32_t method, uint32_t n, uint32_t m, uint32_t 
 //
 // What is proved of the source:
 //   - Every call returns, and reads and writes only the bytes it is lent.
-//   - The refusal, the results and every byte of scratch are as the requests for a frame and for its screening lay them out.
-//     In every accepted frame the results join to the ciphertext of FIPS 197. A refused call writes nothing.
+//   - The refusal, the results and every byte of scratch are what the definitions in specs/ make of the arguments and of
+//     what is lent; docs/REFERENCE.md has them in words. In every accepted frame the results join to the ciphertext of
+//     FIPS 197. A refused call writes nothing.
 //   - Any two of the values that the logs of one layer's sixteen lookups list tell nothing of the state, all masks being
 //     uniform and independent.
 // What is not proved: that of two values of a whole frame; how long a call takes; what the compiled code holds in registers
