@@ -1,5 +1,5 @@
-// A whole AES-128 frame in plain C, written from FIPS 197 and the requests for it and its screening alone. It is made to be read, not to be
-// fast or to hide anything. A byte is an array of its three shares; all round keys are made before the first round.
+// A whole AES-128 frame in plain C, written from FIPS 197 and the requirements alone, without looking at the code. It is made to be read,
+// not to be fast or to hide anything. A byte is an array of its three shares; all round keys are made before the first round.
 #include "frame_reference.h"
 
 #include "aes.h"

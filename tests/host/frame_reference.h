@@ -1,4 +1,4 @@
-// A whole AES-128 frame in plain C, written from FIPS 197 and the requests for it alone, to compare the proved one with.
+// A whole AES-128 frame in plain C, written from FIPS 197 and the requirements alone, to compare the proved one with.
 #ifndef FRAME_REFERENCE_H
 #define FRAME_REFERENCE_H
 

@@ -1,4 +1,4 @@
-// Compares the exported plain call with the reference, and with the scope document's own figures. Run it with a group's name for that
+// Compares the exported plain call with the reference, and with figures of its own (docs/REFERENCE.md). Run it with a group's name for that
 // group alone. Prints a line of counts for each group of calls and the first calls that differ; exits with 1 if any differs, or if
 // comparisons are missing. The twentieth difference ends it.
 #include "cippazhey.h"

@@ -1,4 +1,4 @@
-// The plain call in plain C, written from the scope document and its later requests alone. It is made to be read, not to be fast or to
+// The plain call in plain C, written from the requirements alone, without looking at the code. It is made to be read, not to be fast or to
 // hide anything.
 #include "reference.h"
 

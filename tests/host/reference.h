@@ -1,4 +1,4 @@
-// The plain call in plain C, written from the scope document and its later requests alone, to compare the proved one with.
+// The plain call in plain C, written from the requirements alone, to compare the proved one with.
 #ifndef REFERENCE_H
 #define REFERENCE_H
 

@@ -1,4 +1,4 @@
-// The screen in plain C, written from the request for it alone. It is made to be read, not to be fast: each window is counted anew.
+// The screen in plain C, written from the requirements alone. It is made to be read, not to be fast: each window is counted anew.
 #include "screen_reference.h"
 
 #include <stdbool.h>

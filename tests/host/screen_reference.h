@@ -1,4 +1,4 @@
-// The screen in plain C, written from the request for it alone, to compare the proved one with.
+// The screen in plain C, written from the requirements alone, to compare the proved one with.
 #ifndef SCREEN_REFERENCE_H
 #define SCREEN_REFERENCE_H
 

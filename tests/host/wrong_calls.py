@@ -1,6 +1,6 @@
 # The control of tests/host/plain_call_test.c: wrong calls, each of which the group named beside it must notice. A wrong call is the
 # reference with an edit, exported in the place of the archive's call; the reference that it is compared with may have the edit too, and
-# then the scope's figures must notice it. Run: python3 tests/host/wrong_calls.py (status 0 if the unedited reference passes whole and
+# then the test's own figures must notice it. Run: python3 tests/host/wrong_calls.py (status 0 if the unedited reference passes whole and
 # every wrong call is noticed, 1 otherwise, with a line for each that is not).
 import subprocess
 import sys
@@ -179,7 +179,7 @@ WRONG_CALLS = {
     "calls_in_a_row": CALLS_IN_A_ROW,
     "random_calls": RANDOM_CALLS,
 }
-# Those that the reference is given too: the scope's figures, and the share joined with its masks, must notice them.
+# Those that the reference is given too: the test's own figures, and the share joined with its masks, must notice them.
 COMMON_FAULTS = {
     "bench_sheet": {
         "scratch cleared": before("    return registers[call.b];", "scratch[call.r3] = 0;"),

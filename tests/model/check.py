@@ -1,4 +1,4 @@
-# Holds the model to the documents: their figures, their laws, every refusal with what is just inside, and the order of the refusals.
+# Holds the model to the requirements: their figures, their laws, every refusal with what is just inside, and the order of the refusals.
 # Run: python3 tests/model/check.py (status 0 when all agree, 1 otherwise, with a line for each that does not).
 import sys
 
@@ -9,7 +9,7 @@ import check_sbox
 import check_screening
 import check_small
 
-# For each module, what holds it to the documents. The quick parts come first: a wrong model is then noticed sooner.
+# For each module, what holds it to them. The quick parts come first: a wrong model is then noticed sooner.
 PARTS = {
     "model": (check_small, check_print, check_calls),
     "sbox": (check_sbox,),

@@ -1,5 +1,5 @@
-# Holds the model's logged and plain call, its clearing, its logs and its counts to the documents: the scope (01), and the request for
-# clean scratch (02, §4). Each group yields a name, what the model says and what it should say.
+# Holds the model's logged and plain call, its clearing, its logs and its counts to what is required of them (docs/REFERENCE.md). Each
+# group yields a name, what the model says and what it should say.
 import model
 from document import KINDS, LENGTHS, TABLE_A
 from model import Case
@@ -67,7 +67,7 @@ def lengths():
             yield name + ", one less", refusal_of(case, table, scratch=[0] * 2**n, log_entries=figure - 1), 14
 
 
-# The values of a log, in the order of the document's lists of kinds.
+# The values of a log, in the order of the lists of kinds (document.py).
 def values_2(case, table):
     _, n, _, x0, r1, r2, s1, s2, r3, _ = case
     r_prime = r1 ^ r3 ^ r2

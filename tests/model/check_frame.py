@@ -1,5 +1,5 @@
-# Holds the model's cipher to FIPS 197, and its frame to the requests for it (02, §13 and §14). Each group yields a name, what the model
-# says and what it should say.
+# Holds the model's cipher to FIPS 197, and its frame to what is required of it (docs/REFERENCE.md). Each group yields a name, what the
+# model says and what it should say.
 import random
 from unittest import mock
 

@@ -1,4 +1,5 @@
-# Holds the model's bench print to the scope document. Each group yields a name, what the model says and what it should say.
+# Holds the model's bench print to the form that is required (docs/REFERENCE.md). Each group yields a name, what the model says and what it
+# should say.
 import model
 from check_calls import P3, whole_log
 from document import SAMPLE_INPUT, SAMPLE_OUTPUT, TABLE_A

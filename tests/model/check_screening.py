@@ -1,4 +1,5 @@
-# Holds the model's screening to the request for it (02, §14). Each group yields a name, what the model says and what it should say.
+# Holds the model's screening to what is required of it (docs/REFERENCE.md). Each group yields a name, what the model says and what it
+# should say.
 import random
 
 import screening

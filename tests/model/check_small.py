@@ -1,5 +1,5 @@
-# Holds the model's splitting, joining, key addition and linear layer to the scope document. Each group yields a name, what the model
-# says and what it should say.
+# Holds the model's splitting, joining, key addition and linear layer to what is required of them (docs/REFERENCE.md). Each group yields a
+# name, what the model says and what it should say.
 import itertools
 
 import model

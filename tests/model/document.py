@@ -1,4 +1,4 @@
-# The scope document's own figures, as it prints them.
+# The figures that the requirements give, as they print them. Nothing here is computed, and nothing is taken from the code.
 
 # The program's sample, whole.
 SAMPLE_INPUT = b"""\

@@ -1,5 +1,5 @@
-# A whole AES-128 frame in plain Python, written from FIPS 197 and the requests for it (02, §13 and §14) alone: the cipher itself, and the
-# frame on three shares. It shares nothing with the proved code; a lookup is that of model.py, the screening that of screening.py.
+# A whole AES-128 frame in plain Python, written from FIPS 197 and the requirements alone, without looking at the code: the cipher itself,
+# and the frame on three shares. It shares nothing with the proved code; a lookup is that of model.py, the screening that of screening.py.
 # A block is a list of 16 bytes, byte r + 4c being row r of column c; a word is a list of 4. What is shared is a list of three such lists.
 from collections import namedtuple
 

@@ -1,5 +1,5 @@
-# The calls, the logs, the counts and the bench print in plain Python, written from the documents alone: the scope (01), and the request
-# for clean scratch (02, §4).
+# The calls, the logs, the counts and the bench print in plain Python, written from the requirements alone, without looking at the code.
+# docs/REFERENCE.md says the same in words.
 # It shares nothing with the proved code, so that a test which compares the two can find a fault in either.
 # Numbers are integers from 0 on; a table, a scratch buffer and rows are lists of bytes; a log is a list of 16-bit entries.
 import itertools

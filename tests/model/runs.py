@@ -1,4 +1,4 @@
-# Runs of bytes that are just faulty, or just not, for the tests of the screening (02, §14) and of the frame.
+# Runs of bytes that are just faulty, or just not, for the tests of the screening and of the frame.
 
 
 # So many values in turn. 26 are the fewest that make no fault: each stands 19 or 20 times in any 512 consecutive bytes.

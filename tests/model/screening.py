@@ -1,4 +1,4 @@
-# The screening of random bytes in plain Python, written from the request for it (02, §14) alone. It shares nothing with the proved code.
+# The screening of random bytes in plain Python, written from the requirements alone. It shares nothing with the proved code.
 # A run is a list of bytes, or bytes.
 from collections import Counter
 

@@ -1,3 +1,3 @@
--- The laws of exclusive or, and that document 03 writes the same operations.
+-- The laws of exclusive or, and that operations written step by step are the same.
 pub mod Xor
 pub mod Stepwise

@@ -1,5 +1,5 @@
--- Document 03 writes exclusive or, common bits and the count of ones step by step, for a fixed number of bits. Within that number of bits
--- they are the exact operations, so nothing that is stated with the exact ones is weaker.
+-- Exclusive or, common bits and the count of ones, step by step for a fixed number of bits: the form that docs/DECISIONS.md calls 03's.
+-- Within that number of bits they are the exact operations, so nothing that is stated with the exact ones is weaker.
 use mathlib.Core.Path.{_≡_, refl, sym, _∙_}
 use Prim.Native.Nat.{ℕ, zero, suc, _+_, _*_, _/_, _%_, _^_, _<_, min}
 use native.Mathlib.Nat.{mul-comm}

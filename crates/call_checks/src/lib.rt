@@ -9,7 +9,7 @@ ghost use Rattle.lookup.specs.Refusals.{mask-checks, scratch-checks, dirty as R
 ghost use Rattle.lookup.specs.Refusals.{case-refusal, plain-refusal, logged-refusal};
 use lookup::Case;
 
-// 2 to 13, 19 and 14
+// 2 to 7, 10 to 13, 19 and 14
 pub fn refused_logged(case: Case, table: &[u8], scratch: &[u8], log: &[u16]) -> u32
     ensures { λ r. ⌜ r ≡ logged-refusal case (now (table .entry)) (now (scratch .entry)) (now (log .entry)) ⌝ }
 {
@@ -23,7 +23,7 @@ pub fn refused_logged(case: Case, table: &[u8], scratch: &[u8], log: &[u16]) -> 
     0
 }
 
-// 2 to 13, and 19
+// 2 to 7, 10 to 13, and 19
 pub fn refused_plain(case: Case, table: &[u8], scratch: &[u8]) -> u32
     ensures { λ r. ⌜ r ≡ plain-refusal case (now (table .entry)) (now (scratch .entry)) ⌝ }
 {
@@ -34,7 +34,7 @@ pub fn refused_plain(case: Case, table: &[u8], scratch: &[u8]) -> u32
     refused_scratch(case, scratch)
 }
 
-// 2 to 12
+// 2 to 7, and 10 to 12
 fn refused_case(case: Case, table: &[u8]) -> u32
     ensures { λ r. ⌜ r ≡ case-refusal case (now (table .entry)) ⌝ }
 {

@@ -41,7 +41,7 @@ count-by log calls n m x a b i j u v =
     over (layer-widths calls n m)
     (λ c. cond (eqb (value-at (log a (call-case n m x c a)) i) u && eqb (value-at (log b (call-case n m x c b)) j) v) 1 0)
 
--- the count of the logs that the documents lay out
+-- the count of the logs as they are defined
 unfoldable pub layer-count : (table : List ℕ) → (calls n m : ℕ) → (state : ℕ → ℕ) → (a b i j u v : ℕ) → ℕ
 layer-count table = count-by (λ k case. log-of case table)
 

@@ -43,7 +43,7 @@ Layer-choices-accepted =
     Lent-fit 16 n scratch lent → Within (layer-widths 16 n m) choice → k < 16 →
     logged-refusal (call-case n m x choice k) table (scratch k) (lent k) ≡ 0
 
--- and the count of the logs that the calls leave is the count of those that the documents lay out
+-- and the count of the logs that the calls leave is the count of the logs as they are defined
 unfoldable pub Layer-calls-counted : Type 0
 Layer-calls-counted =
     (table : List ℕ) (scratch lent : ℕ → List ℕ) (n m : ℕ) (x : ℕ → ℕ) (a b i j u v : ℕ) → table-refusal n m table ≡ 0 → Inputs-fit 16 n x →

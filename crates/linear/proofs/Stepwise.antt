@@ -1,4 +1,5 @@
--- Document 03 writes the map with 8-step operations and the row's place; for inputs of 8 bits, whatever the rows, that is the map here.
+-- The map with 8-step operations and the row's place, which docs/DECISIONS.md calls 03's: for inputs of 8 bits, whatever the rows, it is
+-- the map here.
 use mathlib.Core.Path.{_≡_, ap, _∙_}
 use mathlib.Core.List.{List, [], _∷_}
 use Prim.Native.Nat.{ℕ, suc, _+_, _*_, _%_, _^_, _<_}

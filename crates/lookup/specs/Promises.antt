@@ -58,7 +58,7 @@ Cleared-taken =
     (table : List ℕ) (size : ℕ) (c : Case) → scratch-length (c .method) (c .n) ≤ size →
     plain-refusal c table (replicate size 0) ≡ case-refusal c table
 
--- the lengths that document 01 gives
+-- the lengths of log and scratch in numbers
 unfoldable pub Lengths-right : Type 0
 Lengths-right =
     (n : ℕ) → (log-length 2 n ≡ 10 + 6 * 2 ^ n) × (log-length 3 n ≡ 10 + 9 * 2 ^ n)

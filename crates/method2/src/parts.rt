@@ -9,7 +9,7 @@ ghost use Rattle.lookup.specs.Layout.{layout-size};
 ghost use Rattle.lookup.specs.Row.{kinds};
 ghost use Rattle.lookup.specs.Method2.{head-2, pass-2, end-2, method-2};
 
-// Source 004's row numbers, in the order of the log.
+// The kinds in the order of the log. docs/REFERENCE.md says what each shows.
 const HEAD: [u8; 8] = [10, 1, 2, 3, 4, 5, 6, 7];
 
 const LOOP: [u8; 6] = [8, 9, 11, 12, 13, 14];

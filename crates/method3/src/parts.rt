@@ -9,7 +9,7 @@ ghost use Rattle.lookup.specs.Layout.{layout-size};
 ghost use Rattle.lookup.specs.Row.{kinds};
 ghost use Rattle.lookup.specs.Method3.{head-3, pass-3, end-3, method-3};
 
-// Source 004's row numbers, in the order of the log.
+// The kinds in the order of the log. docs/REFERENCE.md says what each shows.
 const HEAD: [u8; 8] = [11, 1, 2, 3, 4, 6, 5, 18];
 
 const LOOP: [u8; 9] = [7, 8, 9, 17, 10, 12, 13, 14, 15];

@@ -8,7 +8,7 @@ pub record Check : Type 0 where
   pub applies : Bool
 
 infix 68 _when_
--- a line of the documents' list: its number, and when it applies
+-- a line of a call's list: its number, and when it applies. docs/REFERENCE.md has all numbers in words
 abbrev pub _when_ : ℕ → Bool → Check
 number when test = record { number = number; applies = test }
 

@@ -1,4 +1,4 @@
--- The third demand holds, and the choices are as many as document 01 says.
+-- The third demand holds, and there are as many choices as docs/REFERENCE.md says.
 use mathlib.Core.Path.{_≡_, _∙_}
 use mathlib.Core.List.{List}
 use Prim.Native.Nat.{ℕ, _+_, _*_, _^_, _<_}

@@ -1,4 +1,4 @@
--- The bench sheet holds: each line computes to what the paper says.
+-- The bench sheet holds: each line computes to what the sheet says.
 use mathlib.Core.Path.{refl}
 use Rattle.bits.specs.Xor.{_⊕_}
 use Rattle.counting.specs.Sum.{sum}

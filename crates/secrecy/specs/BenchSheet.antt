@@ -1,5 +1,5 @@
--- Document 01's bench sheet, P1 to P12, with document 02's clean scratch, and counts beside it: on each line what the definitions come
--- to, and what the paper says.
+-- The bench sheet: P1 to P12, worked cases that were given with the product's requirements, and beside them 19 and some counts. On each
+-- line stand what the definitions come to, and what the sheet says.
 use mathlib.Core.Path.{_≡_}
 use mathlib.Core.List.{List, [], _∷_, _++_, map}
 use Prim.Native.Nat.{ℕ, suc}
@@ -15,11 +15,11 @@ use Rattle.secrecy.specs.Count.{single, chosen-case, mask-widths, count}
 
 pub record Line : Type 0 where
   pub comes-to : List ℕ
-  pub paper : List ℕ
+  pub given : List ℕ
 
 infix 68 _says_
-abbrev pub _says_ : (comes-to paper : List ℕ) → Line
-found says paper = record { comes-to = found; paper = paper }
+abbrev pub _says_ : (comes-to given : List ℕ) → Line
+found says figures = record { comes-to = found; given = figures }
 
 -- table A, and the call of P2
 abbrev A : List ℕ
@@ -48,7 +48,7 @@ pairs table method n m x i j =
 
 unfoldable pub sheet : List Line
 sheet =
-    -- P1: the call above answers 1
+    -- P1 (examples/p1.sheet): answer 1
     (refused (case-from 2 1 1 0 1 0 0 1 1 0) (1 ∷ 0 ∷ []) 2 22 ∷ answer (case-from 2 1 1 0 1 0 0 1 1 0) (1 ∷ 0 ∷ []) ∷ []) says (0 ∷ 1 ∷ [])
     -- P2: scratch 3, 1, 2, 0, answer 2
     ∷ scratch-after P2 A (replicate 4 0) says (3 ∷ 1 ∷ 2 ∷ 0 ∷ [])
@@ -66,7 +66,7 @@ sheet =
     ∷ (all-masks 2 2 1 (0 ∷ 1 ∷ 1 ∷ 0 ∷ []) 4 34 ∷ all-masks 3 2 1 (0 ∷ 1 ∷ 1 ∷ 0 ∷ []) 4 46 ∷ []) says (0 ∷ 0 ∷ [])
     -- P7: scratch of 3 bytes: 13; with 4 accepted
     ∷ (refused P2 A 3 34 ∷ refused P2 A 4 34 ∷ []) says (13 ∷ 0 ∷ [])
-    -- P2 with a nonzero byte (document 02, §4): the first, the last of 2^n: 19; the one behind them: accepted
+    -- P2 with a nonzero byte in the scratch: the first, the last of 2^n: 19; the one behind them: accepted
     ∷ (dirty-P2 4 0 34 ∷ dirty-P2 4 3 34 ∷ dirty-P2 5 4 34 ∷ []) says (19 ∷ 19 ∷ 0 ∷ [])
     -- 13 comes before 19, and 19 before 14
     ∷ (dirty-P2 3 0 34 ∷ dirty-P2 4 0 33 ∷ []) says (13 ∷ 19 ∷ [])
@@ -83,14 +83,14 @@ sheet =
     ∷ pairs (1 ∷ 0 ∷ []) 2 1 1 0 0 21 says (8 ∷ 8 ∷ 8 ∷ 8 ∷ [])
     ∷ pairs (1 ∷ 0 ∷ []) 2 1 1 1 0 21 says (8 ∷ 8 ∷ 8 ∷ 8 ∷ [])
     ∷ (over (mask-widths 2 1 1) (λ c. 1) ∷ []) says (32 ∷ [])
-    -- 'Leaks that look harmless': P6's refused table, kind 14 at a = 0 and the answer both 0: 96 of 256 choices for x = 0, 32 for x = 3
+    -- P6's refused table leaks: kind 14 at a = 0 and the answer are both 0 for 96 of 256 choices where x = 0, and for 32 where x = 3
     ∷ (count (0 ∷ 0 ∷ 0 ∷ 1 ∷ []) 2 2 1 0 13 33 0 0 ∷ count (0 ∷ 0 ∷ 0 ∷ 1 ∷ []) 2 2 1 3 13 33 0 0 ∷ []) says (96 ∷ 32 ∷ [])
     ∷ (over (mask-widths 2 2 1) (λ c. 1) ∷ []) says (256 ∷ [])
-    -- values above 1, which no line of the paper counts: x0 = 3 and the answer 2 with table A, a sixteenth of the choices for every input
+    -- values above 1, which no line above counts: x0 = 3 and the answer 2 with table A, a sixteenth of the choices for every input
     ∷ (count A 2 2 2 0 0 33 3 2 ∷ count A 2 2 2 3 0 33 3 2 ∷ []) says (64 ∷ 64 ∷ [])
     ∷ (over (mask-widths 2 2 2) (λ c. 1) ∷ []) says (1024 ∷ [])
     ∷ []
 
--- the definitions come to what the paper says
+-- the definitions come to what the sheet says
 unfoldable pub Sheet-right : Type 0
-Sheet-right = map (λ l. l .comes-to) sheet ≡ map (λ l. l .paper) sheet
+Sheet-right = map (λ l. l .comes-to) sheet ≡ map (λ l. l .given) sheet

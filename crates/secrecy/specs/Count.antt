@@ -1,5 +1,5 @@
--- The count: over all choices of masks, how many put two given values at two given positions, of the log that the documents lay out and
--- of the one that the call leaves.
+-- The count: over all choices of masks, how many put two given values at two given positions, of the log as it is defined (`log-of`) and
+-- of the one that the call leaves. docs/REFERENCE.md lays the log out in words.
 use mathlib.Core.Bool.{cond, _&&_}
 use mathlib.Core.List.{List, map}
 use Prim.Native.Nat.{ℕ}

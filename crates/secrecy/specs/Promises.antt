@@ -1,5 +1,5 @@
--- The third demand, of the log that the documents lay out and of the logged call itself. Each statement is a type; the proofs stand in
--- proofs/Promises.antt and proofs/Lent.antt.
+-- The third demand (docs/ARCHITECTURE.md says which that is), of the log as it is defined and of the logged call itself. Each statement is
+-- a type; the proofs stand in proofs/Promises.antt and proofs/Lent.antt.
 use mathlib.Core.Path.{_≡_}
 use mathlib.Core.Logic.{_⊎_}
 use mathlib.Core.Bool.{true, false}

@@ -1,1 +1,1 @@
-// What two entries of a log tell, counted over all choices of masks, and document 01's bench sheet. Theorems only: there is no code here.
+// What two entries of a log tell, counted over all choices of masks, and the bench sheet. Theorems only: there is no code here.
