@@ -9,7 +9,8 @@ DESTDIR =
 
 archive = target/staticlib/libcippazhey.a
 program = target/bin/bench
-installed = $(addprefix $(DESTDIR)$(PREFIX)/,lib/libcippazhey.a include/cippazhey.h lib/pkgconfig/cippazhey.pc bin/cippazhey-bench)
+prefix = $(abspath $(PREFIX))
+installed = $(addprefix $(DESTDIR)$(prefix)/,lib/libcippazhey.a include/cippazhey.h lib/pkgconfig/cippazhey.pc bin/cippazhey-bench)
 part_of_version = $(shell sed -n 's/^\#define CIPPAZHEY_VERSION_$(1) //p' include/cippazhey.h)
 version = $(call part_of_version,MAJOR).$(call part_of_version,MINOR).$(call part_of_version,PATCH)
 # what is shown of long work counts from here
@@ -68,7 +69,7 @@ install: ## what `make` has built, into PREFIX (/usr/local), with DESTDIR before
 	install -d $(dir $(installed))
 	install -m 644 $(archive) $(word 1,$(installed))
 	install -m 644 include/cippazhey.h $(word 2,$(installed))
-	sed -e 's|@PREFIX@|$(PREFIX)|' -e 's|@VERSION@|$(version)|' include/cippazhey.pc.in > $(word 3,$(installed))
+	sed -e 's|@PREFIX@|$(prefix)|' -e 's|@VERSION@|$(version)|' include/cippazhey.pc.in > $(word 3,$(installed))
 	install -m 755 $(program) $(word 4,$(installed))
 
 uninstall: ## removes what `make install` puts there; takes the same PREFIX and DESTDIR
