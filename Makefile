@@ -32,6 +32,7 @@ lib: ## target/staticlib/libcippazhey.a, whose header is include/cippazhey.h
 # where a program is gone, it is linked again
 bench: ## the log of a case sheet (SHEET=..), printed by the proved program
 	@.ci/tools rt
+	@test -r $(SHEET) || { echo 'there is no sheet $(SHEET)'; exit 1; }
 	@test -x $(program) || rm -f target/stamp/bench
 	$(call rt_in,bench,check bench)
 	@$(program) < $(SHEET)
@@ -64,8 +65,13 @@ speed: ## the tables of docs/PERFORMANCE.md
 test: ## the gate: everything proved anew, every wrong edit tried, all tests and audits run. It begins by removing target/
 	@.ci/run
 
+# blanks would be taken for ends of names, and this folder has a header of its own
+folder_is_fit = @case '$(DESTDIR)$(PREFIX)' in *[[:space:]]*) echo 'a folder with a blank in its name cannot be taken'; exit 1 ;; esac; \
+	test '$(DESTDIR)$(prefix)' != '$(CURDIR)' || { echo 'PREFIX is this folder itself: take another'; exit 1; }
+
 install: ## what `make` has built, into PREFIX (/usr/local), with DESTDIR before it
-	@test -f $(archive) -a -f $(program) || { echo 'there is nothing to install yet: run `make` first'; exit 1; }
+	@test -f $(archive) -a -f $(program) || { echo 'there is nothing to install yet, or not all of it: run `make` first'; exit 1; }
+	$(folder_is_fit)
 	install -d $(dir $(installed))
 	install -m 644 $(archive) $(word 1,$(installed))
 	install -m 644 include/cippazhey.h $(word 2,$(installed))
@@ -73,6 +79,7 @@ install: ## what `make` has built, into PREFIX (/usr/local), with DESTDIR before
 	install -m 755 $(program) $(word 4,$(installed))
 
 uninstall: ## removes what `make install` puts there; takes the same PREFIX and DESTDIR
+	$(folder_is_fit)
 	rm -f $(installed)
 
 clean: ## removes target/, all that was built

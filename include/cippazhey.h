@@ -79,8 +79,8 @@ enum cippazhey_refusal {
 //   - A caller that passes a constant for a mask lets its compiler undo the masking: neither proved nor audited.
 //   - Three values taken together tell the secret, and so may masks that are not uniform or are used twice.
 //
-// Returned is refusal * 256 + share, the share 0 on refusal. Look at the refusal first: a 0 joined with s1 and s2 looks like
-// an answer.
+// Returned is refusal * 256 + share, the share 0 on refusal. So a returned 19 is a share; the refusal 19 is a returned 4864.
+// Look at the refusal first: a 0 joined with s1 and s2 looks like an answer.
 uint16_t cippazhey_plain_call(uint32_t method, uint32_t n, uint32_t m, uint32_t x0, uint32_t r1, uint32_t r2, uint32_t s1,
                               uint32_t s2, uint32_t r3, uint32_t b, const uint8_t *table, size_t table_length,
                               uint8_t *scratch, size_t scratch_length);
@@ -136,7 +136,8 @@ uint32_t cippazhey_encrypt_frame(const uint8_t plaintext[16], const uint8_t key1
 
 // Screens a run of random bytes, byte after byte, so that a stuck noise source is noticed. The run is faulty if some value
 // stands more than 20 times in 512 consecutive bytes, a window; a run of fewer than 512 bytes is one window. Returned is the
-// first faulty window's start, counted from 0, or CIPPAZHEY_NO_FAULT. An empty run is not faulty. Nothing is refused.
+// first faulty window's start, counted from 0, or CIPPAZHEY_NO_FAULT: a returned 0 is a fault. An empty run is not faulty.
+// Nothing is refused.
 // A frame screens its random bytes itself; those of a single lookup are not screened.
 //
 //   run          only read; NULL is allowed only with length 0
