@@ -59,7 +59,7 @@ audit: ## what the machine code does with the masks, an instruction at a time; x
 	@cat target/audit/plain_2.log target/audit/plain_3.log target/audit/frame.log
 
 speed: ## the tables of docs/PERFORMANCE.md
-	@.ci/tools x86-64 rt cc python3 valgrind
+	@.ci/tools x86-64 rt cc nm objdump size python3 valgrind
 	@tests/speed/run
 
 test: ## the gate: everything proved anew, every wrong edit tried, all tests and audits run. It begins by removing target/

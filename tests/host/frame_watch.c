@@ -14,25 +14,26 @@
 #include <ucontext.h>
 #include <unistd.h>
 
-enum { LOOKUPS = 200, ENTRIES = 256, TRAP_FLAG = 0x100, ACCESS_WRITES = 2 };
+enum { LOOKUPS = 200, ENTRIES = 256, WRITES = 2 * ENTRIES, TRAP_FLAG = 0x100, ACCESS_WRITES = 2 };
 
-// A lookup as the scratch shows it, when its answer is read: the last writes, one for each entry, and what stands there.
+// A write: its place, what it leaves there, and whether scratch was zero before.
+struct write {
+    uint8_t place, value;
+    bool clean;
+};
+
+// A lookup as the scratch shows it, when its answer is read: the last writes, two for each entry, from the oldest on, and what stands there.
 struct seen {
     unsigned times;
-    bool clean_before;
-    uint8_t places[ENTRIES], entries[ENTRIES];
+    struct write writes[WRITES];
+    uint8_t entries[ENTRIES];
 };
 
 // By the place that the answer is read from, r3. In the watched frame no two lookups have the same.
 static struct seen lookups[ENTRIES];
 static unsigned answers, beside, nonzero_writes;
-// The place of the write that is under way, or ENTRIES.
-static size_t writing = ENTRIES;
-// The last writes, from the oldest on, and whether scratch was zero before each.
-static struct {
-    uint8_t place;
-    bool clean;
-} writes[ENTRIES];
+// The last writes, in a ring, and the one that is under way.
+static struct write writes[WRITES], *writing;
 static unsigned next_write;
 static uint8_t *scratch;
 static size_t page_length;
@@ -43,10 +44,9 @@ static bool all_zero(void) {
 }
 
 static void note_write(uint8_t place) {
-    writes[next_write % ENTRIES].place = place;
-    writes[next_write % ENTRIES].clean = all_zero();
-    next_write++;
-    writing = place;
+    writing = &writes[next_write++ % WRITES];
+    writing->place = place;
+    writing->clean = all_zero();
 }
 
 // To read zeros where all is zero tells nothing.
@@ -56,9 +56,8 @@ static void note_read(uint8_t place) {
     }
     struct seen *lookup = &lookups[place];
     lookup->times++;
-    lookup->clean_before = writes[next_write % ENTRIES].clean;
-    for (unsigned each = 0; each < ENTRIES; each++) {
-        lookup->places[each] = writes[(next_write + each) % ENTRIES].place;
+    for (unsigned each = 0; each < WRITES; each++) {
+        lookup->writes[each] = writes[(next_write + each) % WRITES];
     }
     memcpy(lookup->entries, scratch, ENTRIES);
     answers++;
@@ -85,8 +84,11 @@ static void on_access(int number, siginfo_t *info, void *context) {
 
 static void on_step(int number, siginfo_t *info, void *context) {
     (void)number, (void)info;
-    nonzero_writes += writing < ENTRIES && scratch[writing] != 0;
-    writing = ENTRIES;
+    if (writing != NULL) {
+        writing->value = scratch[writing->place];
+        nonzero_writes += writing->value != 0;
+        writing = NULL;
+    }
     mprotect(scratch, page_length, PROT_NONE);
     ((ucontext_t *)context)->uc_mcontext.gregs[REG_EFL] &= ~(greg_t)TRAP_FLAG;
 }
@@ -107,6 +109,7 @@ static uint32_t watch(frame_call *call, struct frame_trial *trial, size_t length
     lent[SCRATCH].length = length;
     memset(lookups, 0, sizeof lookups);
     answers = beside = nonzero_writes = next_write = 0;
+    writing = NULL;
     memset(scratch, 0xff, page_length);
     handle(SIGSEGV, on_access, &access_before);
     handle(SIGTRAP, on_step, &step_before);
@@ -118,14 +121,24 @@ static uint32_t watch(frame_call *call, struct frame_trial *trial, size_t length
     return refusal;
 }
 
-// Whether a lookup filled scratch in the order of method 2: entry a at a ^ r'.
-static bool in_order(const struct seen *lookup, uint8_t r_prime) {
+// Whether a lookup filled scratch, which was clean, in the order of method 2, entry a at a ^ r', by so many writes for each entry. The first
+// of two leaves it without s2.
+static bool filled(const struct seen *lookup, uint8_t r_prime, uint8_t s2, unsigned each) {
+    const struct write *first = lookup->writes + WRITES - each * ENTRIES;
     for (unsigned a = 0; a < ENTRIES; a++) {
-        if (lookup->places[a] != (a ^ r_prime)) {
-            return false;
+        for (unsigned done = 1; done <= each; done++) {
+            const struct write *each_write = &first[each * a + done - 1];
+            if (each_write->place != (a ^ r_prime) || each_write->value != (lookup->entries[each_write->place] ^ (done < each ? s2 : 0))) {
+                return false;
+            }
         }
     }
-    return true;
+    return first->clean;
+}
+
+// How many writes for each entry a lookup made, or 0.
+static unsigned writes_an_entry(const struct seen *lookup, uint8_t r_prime, uint8_t s2) {
+    return filled(lookup, r_prime, s2, 1) ? 1 : filled(lookup, r_prime, s2, 2) ? 2 : 0;
 }
 
 // Whether its entries are the S-box under s1 and s2, shifted by its secret and r3. The secret is the one whose entry the answer is.
@@ -152,20 +165,23 @@ static void lend_scratch(void) {
     }
 }
 
-// A lookup's entries are all bytes, each once, so one of its 256 is zero; clearing writes none that is not.
+// A lookup's entries are all bytes, each once, so one of its 256 is zero, with s2 and without; clearing writes none that is not.
 static void watch_at_length(size_t length) {
     struct frame_trial trial = stored_trial(&frame_cases[frame_case_count - 1]);
+    unsigned passes = 0;
     record(watch(cippazhey_encrypt_frame, &trial, length) == CIPPAZHEY_ACCEPTED, "watched frame");
     record(answers == LOOKUPS && beside == 0, "number of lookups, and nothing beside them");
-    record(nonzero_writes == LOOKUPS * (ENTRIES - 1), "nothing written but entries and zeros");
     record(all_zero(), "watched scratch after the last lookup");
     for (unsigned each = 0; each < LOOKUPS; each++) {
         const uint8_t *masks = trial.random + 32 + 3 * each;
         const struct seen *lookup = &lookups[masks[2]];
-        record(lookup->times == 1 && lookup->clean_before, "one lookup for each r3, on cleared scratch");
-        record(in_order(lookup, last_r_primes[each]), "entries in the order of method 2");
+        unsigned writes_each = writes_an_entry(lookup, last_r_primes[each], masks[1]);
+        passes += writes_each;
+        record(lookup->times == 1, "one lookup for each r3");
+        record(writes_each != 0, "cleared scratch filled in the order of method 2");
         record(masked(lookup, masks), "entries under their masks");
     }
+    record(nonzero_writes == passes * (ENTRIES - 1), "nothing written but entries and zeros");
 }
 
 // Scratch that is just long enough, and longer.

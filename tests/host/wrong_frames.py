@@ -38,6 +38,7 @@ PLAINTEXT_MASKS = "r1 = random[place], r2 = random[16 + place]"
 KEY_SHARES = "{key1[place], key2[place], key3[place]}"
 CLEAR = "memset(lent.scratch, 0, SCRATCH_LENGTH);"
 CLEAR_BEFORE = "    clear(lent);\n    for (int a = 0; a < 256; a++) {\n"
+PLACE = "lent.scratch[a ^ r_prime]"
 ENTRY = "(aes_sbox[x0 ^ a] ^ s1) ^ s2;"
 ANSWER = "    byte[0] = lent.scratch[r3];\n"
 LAST_CLEAR = "        add_round_key(state, words, round);\n    }\n    clear(lent);\n"
@@ -49,6 +50,11 @@ SECRET = "    *(volatile uint8_t *)&lent.scratch[7] = x0 ^ r1 ^ r2;\n"
 
 def before(line, *added):
     return line, "".join(f"    {each}\n" for each in added) + line
+
+
+# What stands at an entry's place before the entry does.
+def written_first(value):
+    return f"{PLACE} = {ENTRY}", f"*(volatile uint8_t *)&{PLACE} = {value};\n        {PLACE} = {ENTRY}"
 
 
 # What is done at each byte, up to a length.
@@ -200,6 +206,8 @@ WATCHED = {
     "plaintext not masked": (PLAINTEXT_MASKS, "r1 = 0, r2 = 0"),
     "plaintext's masks in turns": (PLAINTEXT_MASKS, "r1 = random[2 * place], r2 = random[2 * place + 1]"),
     "another mask for the other entries": (ENTRY, ENTRY.replace("^ s2", "^ ((a ^ r_prime) == r3 ? s2 : 0)")),
+    "an entry written without masks first": written_first("aes_sbox[x0 ^ a]"),
+    "an entry written under s2 first": written_first("aes_sbox[x0 ^ a] ^ s2"),
     "an answer read twice": (ANSWER, f"    (void)*(volatile uint8_t *)&lent.scratch[r3];\n{ANSWER}"),
     "the secret byte left after a lookup": (ANSWER, ANSWER + SECRET),
     "the secret byte left before a lookup": (CLEAR_BEFORE, SECRET + CLEAR_BEFORE),

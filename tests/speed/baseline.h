@@ -28,8 +28,16 @@ PLAIN_CALL(guarded_bare_call);
 uint64_t baseline_screen(const uint8_t *run, size_t length);
 
 // The frame, with barriers only. The parameters and the refusal are those of the exported call.
-uint32_t guarded_frame(const uint8_t plaintext[16], const uint8_t key1[16], const uint8_t key2[16], const uint8_t key3[16],
-                       const uint8_t *random, size_t random_length, uint8_t *scratch, size_t scratch_length, uint8_t share1[16],
-                       uint8_t share2[16], uint8_t share3[16]);
+#define FRAME_CALL(name)                                                                                                        \
+    uint32_t name(const uint8_t plaintext[16], const uint8_t key1[16], const uint8_t key2[16], const uint8_t key3[16],          \
+                  const uint8_t *random, size_t random_length, uint8_t *scratch, size_t scratch_length, uint8_t share1[16],     \
+                  uint8_t share2[16], uint8_t share3[16])
+FRAME_CALL(guarded_frame);
+
+// Calls of nothing, with the parameters of each kind (nothing.c).
+PLAIN_CALL(nothing_plain_call);
+LOGGED_CALL(nothing_logged_call);
+FRAME_CALL(nothing_frame);
+uint64_t nothing_screen(const uint8_t *run, size_t length);
 
 #endif

@@ -117,9 +117,7 @@ static void encrypt(block state[SHARES], block key[SHARES], struct lent lent) {
     clear(lent.scratch);
 }
 
-uint32_t guarded_frame(const uint8_t plaintext[16], const uint8_t key1[16], const uint8_t key2[16], const uint8_t key3[16],
-                       const uint8_t *random, size_t random_length, uint8_t *scratch, size_t scratch_length, uint8_t share1[16],
-                       uint8_t share2[16], uint8_t share3[16]) {
+FRAME_CALL(guarded_frame) {
     block state[SHARES], key[SHARES];
     if (random_length != RANDOM_LENGTH) return 26;
     if (baseline_screen(random, random_length) != UINT64_MAX) return 27;

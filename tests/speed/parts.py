@@ -14,7 +14,7 @@ OPTIONS = ("--tool=callgrind", "--dump-instr=yes", "--compress-pos=no", "--compr
 # How often each instruction of each function ran, while the given one did.
 def counts(program, function):
     file = f"{program}.counts"
-    command = ["valgrind", *OPTIONS, f"--toggle-collect={function}", f"--callgrind-out-file={file}", program, "none", "0"]
+    command = ["valgrind", *OPTIONS, f"--toggle-collect={function}", f"--callgrind-out-file={file}", program, "nothing_frame", "0"]
     subprocess.run(command, check=True, stderr=subprocess.DEVNULL)
     found, within, of_callee = collections.Counter(), None, False
     for line in open(file):

@@ -1,7 +1,8 @@
 // A masked table lookup's numbers, and the masked entry that both methods make. Their definitions stand in specs/.
 ghost use mathlib.Core.Path.{_≡_};
 ghost use Prim.Native.Nat.{_^_, _<_};
-ghost use lib.ListN.{length};
+ghost use lib.ListN.{length, getD, set};
+ghost use Rattle.bits.specs.Xor.{_⊕_};
 ghost use Rattle.lookup.specs.Bounded.{Bounded};
 ghost use Rattle.lookup.specs.Row.{masked};
 
@@ -37,14 +38,29 @@ pub fn value_barrier(value: u8, index: u32) -> u8
     cells[at]
 }
 
-// The table's entry for turn a, with the output masks added one after the other. It is for the methods' runs, so it has a `requires`.
-pub fn masked_entry(case: Case, table: &[u8], a: u16) -> u8
+// Puts the table's entry for turn a at `to`, with the output masks added one after the other: s1 before it is stored, s2 where it then
+// stands. It is for the methods' runs, so it has a `requires`.
+pub fn put_masked_entry(case: Case, table: &[u8], a: u16, bytes: &mut [u8], to: usize, zero: usize)
     requires { ⌜ Bounded case ⌝ }
     requires { ⌜ length (now table) ≡ 2 ^ case .n ⌝ }
     requires { ⌜ a < 2 ^ case .n ⌝ }
-    ensures { λ r. ⌜ r ≡ masked case (now (table .entry)) a ⌝ }
+    requires { ⌜ to < length (now bytes) ⌝ }
+    requires { ⌜ zero ≡ 0 ⌝ }
+    ensures { λ _. ⌜ now (bytes .exit) ≡ set (now (bytes .entry)) to (masked case (now (table .entry)) a) ⌝ }
 {
     let index = case.x0 as usize ^ a as usize;
-    let once = value_barrier(table[index] ^ case.s1 as u8, case.r3);
-    once ^ case.s2 as u8
+    bytes[to] = table[index] ^ case.s1 as u8;
+    add_mask(bytes, to, case.s2 as u8, zero);
+}
+
+// Adds a mask to a byte in memory. `zero` is 0, which the compiler cannot know where it comes from `value_barrier`. So it cannot know that
+// this is the byte that was stored last, and reads it again in place of joining two masks. That takes no instruction more than a sum in a
+// register would. Only tests/audit guards this too.
+fn add_mask(bytes: &mut [u8], to: usize, mask: u8, zero: usize)
+    requires { ⌜ to < length (now bytes) ⌝ }
+    requires { ⌜ zero ≡ 0 ⌝ }
+    ensures { λ _. ⌜ now (bytes .exit) ≡ set (now (bytes .entry)) to (getD (now (bytes .entry)) to 0 ⊕ mask) ⌝ }
+{
+    let again = &mut bytes[zero..];
+    again[to] ^= mask;
 }

@@ -46,6 +46,12 @@ module _ (c : Case) (table before : List ℕ) where
         long = simp length-set (f .long);
       }
 
+  -- the same, where a call has put the entry there
+  pub filling-put : (now after : List ℕ) (size a place : ℕ) → after ≡ set now place (masked c table a) → size ≡ 2 ^ c .n → a < size
+      → place ≡ a ⊕ r-prime c
+      → Filling c table before now a → Filling c table before after (a + 1)
+  filling-put now after size a place e s h p f = rw e (filling-turns now size a place _ s h p refl f)
+
   pub filling-ends : (now : List ℕ) (size a : ℕ) → size ≡ 2 ^ c .n → size ≤ a → Filling c table before now a
       → now ≡ scratch-2 (Q c) c table before
   unfolding Q

@@ -26,6 +26,7 @@ pub fn run(case: Case, table: &[u8], scratch: &mut [u8]) -> u8
     scratch[r3]
 }
 
+// `zero` comes from a barrier, so that the compiler cannot know it.
 fn fill(case: Case, table: &[u8], scratch: &mut [u8])
     requires { ⌜ Bounded case ⌝ }
     requires { ⌜ length (now table) ≡ 2 ^ case .n ⌝ }
@@ -34,10 +35,11 @@ fn fill(case: Case, table: &[u8], scratch: &mut [u8])
 {
     let turns = bits::power(case.n) as u16;
     let first = r_prime(case);
+    let zero = lookup::value_barrier(0, case.r3) as usize;
     let mut a: u16 = 0;
     while a < turns {
         let to = a as usize ^ first;
-        scratch[to] = lookup::masked_entry(case, table, a);
+        lookup::put_masked_entry(case, table, a, scratch, to, zero);
         a += 1;
     }
 }

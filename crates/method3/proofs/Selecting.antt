@@ -1,5 +1,5 @@
 -- What the loop keeps that selects the entry: the registers are what the definition gives after as many turns.
-use mathlib.Core.Path.{_≡_, ap, _∙_}
+use mathlib.Core.Path.{_≡_, refl, ap, _∙_}
 use mathlib.Core.List.{List, [], _∷_}
 use Prim.Native.Nat.{ℕ, _+_, _^_, _≤_, _<_}
 use native.Mathlib.Numerals.{add-one}
@@ -56,7 +56,7 @@ module _ (c : Case) (scratch : List ℕ) (size a place : ℕ) (k : Bounded c) (f
   pub byte-a-register : size ≡ 2 ^ c .n → a < size → place ≡ place-3 c a → getD scratch place 0 < 2
   byte-a-register s h p = rw (byte-compared s h p) (bit c scratch a k (rw s at h))
 
-  pub selecting-by-byte : (table registers : List ℕ) (value : ℕ) → size ≡ 2 ^ c .n → a < size → place ≡ place-3 c a
-      → value ≡ masked c table a
-      → Selecting c table registers a → Selecting c table (set registers (getD scratch place 0) value) (a + 1)
-  selecting-by-byte table registers value s h p v t = selecting-turns c table registers size a _ value s h (byte-compared s h p) v t
+  pub selecting-put : (table registers after : List ℕ) → after ≡ set registers (getD scratch place 0) (masked c table a) → size ≡ 2 ^ c .n
+      → a < size → place ≡ place-3 c a
+      → Selecting c table registers a → Selecting c table after (a + 1)
+  selecting-put table registers after e s h p t = rw e (selecting-turns c table registers size a _ _ s h (byte-compared s h p) refl t)
