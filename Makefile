@@ -76,6 +76,7 @@ install: ## what `make` has built, into PREFIX (/usr/local), with DESTDIR before
 	install -m 644 $(archive) $(word 1,$(installed))
 	install -m 644 include/cippazhey.h $(word 2,$(installed))
 	sed -e 's|@PREFIX@|$(prefix)|' -e 's|@VERSION@|$(version)|' include/cippazhey.pc.in > $(word 3,$(installed))
+	chmod 644 $(word 3,$(installed))
 	install -m 755 $(program) $(word 4,$(installed))
 
 uninstall: ## removes what `make install` puts there; takes the same PREFIX and DESTDIR
