@@ -26,7 +26,7 @@ all: ## proves every crate, builds the archive for C and the programs, and runs 
 # `rt check` proves several crates at a time, `rt staticlib` one
 lib: ## target/staticlib/libcippazhey.a, whose header is include/cippazhey.h
 	@.ci/tools rt
-	$(call rt_in,lib,check cippazhey)
+	$(call rt_in,check,check cippazhey)
 	$(call rt_in,lib,staticlib cippazhey)
 
 # where a program is gone, it is linked again

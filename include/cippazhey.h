@@ -77,7 +77,9 @@ enum cippazhey_refusal {
 //   - How long a call takes.
 //   - What the compiled code holds in registers and memory. That was audited, for the x86-64 archive and its compiler only.
 //   - A caller that passes a constant for a mask lets its compiler undo the masking: neither proved nor audited.
-//   - Three values taken together tell the secret, and so may masks that are not uniform or are used twice.
+//   - Three values taken together can tell the secret, and so may masks that are not uniform or are used twice.
+// What is not cleared: the call's own stack and registers. x0, r1 and r2 stay there, which together are the secret, and under
+// method 3 the answer too: overwrite that stack (docs/PERFORMANCE.md says how deep it is), or let nobody read it.
 //
 // Returned is refusal * 256 + share, the share 0 on refusal. So a returned 19 is a share; the refusal 19 is a returned 4864.
 // Look at the refusal first: a 0 joined with s1 and s2 looks like an answer.
@@ -119,8 +121,8 @@ uint16_t cippazhey_plain_call(uint32_t method, uint32_t n, uint32_t m, uint32_t 
 //   - The refusal, the results and every byte of scratch are what the definitions in specs/ make of the arguments and of
 //     what is lent; docs/REFERENCE.md has them in words. In every accepted frame the results join to the ciphertext of
 //     FIPS 197. A refused call writes nothing.
-//   - Any two of the values that the logs of one layer's sixteen lookups list tell nothing of the state, all masks being
-//     uniform and independent.
+//   - Any two of the values that the logs of sixteen lookups list tell nothing of what is looked up, all masks being uniform
+//     and independent. A frame's own lookups take the shares that earlier ones left: of those it is not proved.
 // What is not proved: that of two values of a whole frame; how long a call takes; what the compiled code holds in registers
 // and memory. Its values were audited by twos, by a linear test, for the x86-64 archive and its compiler only. The screen's
 // counts are outside of all this: a count is made of many masks at once, and beside a masked value it can tell something

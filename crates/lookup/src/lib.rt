@@ -38,6 +38,14 @@ pub fn value_barrier(value: u8, index: u32) -> u8
     cells[at]
 }
 
+// 0, as far as the compiler can know any number: a mask, joined with itself as a barrier hands it back.
+pub fn unknown_zero(mask: u32) -> usize
+    ensures { λ r. ⌜ r ≡ 0 ⌝ }
+{
+    let byte = (mask % 256) as u8;
+    (value_barrier(byte, mask) ^ byte) as usize
+}
+
 // Puts the table's entry for turn a at `to`, with the output masks added one after the other: s1 before it is stored, s2 where it then
 // stands. It is for the methods' runs, so it has a `requires`.
 pub fn put_masked_entry(case: Case, table: &[u8], a: u16, bytes: &mut [u8], to: usize, zero: usize)
@@ -53,9 +61,9 @@ pub fn put_masked_entry(case: Case, table: &[u8], a: u16, bytes: &mut [u8], to: 
     add_mask(bytes, to, case.s2 as u8, zero);
 }
 
-// Adds a mask to a byte in memory. `zero` is 0, which the compiler cannot know where it comes from `value_barrier`. So it cannot know that
-// this is the byte that was stored last, and reads it again in place of joining two masks. That takes no instruction more than a sum in a
-// register would. Only tests/audit guards this too.
+// Adds a mask to a byte in memory. `zero` is 0, and comes from `unknown_zero`. So the compiler does not know that this is the byte that was
+// stored last, and reads it again, in place of joining two masks. That takes no instruction more than a sum in a register and a store
+// would. Only tests/audit guards this too.
 fn add_mask(bytes: &mut [u8], to: usize, mask: u8, zero: usize)
     requires { ⌜ to < length (now bytes) ⌝ }
     requires { ⌜ zero ≡ 0 ⌝ }

@@ -26,7 +26,7 @@ pub fn run(case: Case, table: &[u8], scratch: &mut [u8]) -> u8
     scratch[r3]
 }
 
-// `zero` comes from a barrier, so that the compiler cannot know it.
+// `zero` is 0, and the compiler does not know it.
 fn fill(case: Case, table: &[u8], scratch: &mut [u8])
     requires { ⌜ Bounded case ⌝ }
     requires { ⌜ length (now table) ≡ 2 ^ case .n ⌝ }
@@ -35,7 +35,7 @@ fn fill(case: Case, table: &[u8], scratch: &mut [u8])
 {
     let turns = bits::power(case.n) as u16;
     let first = r_prime(case);
-    let zero = lookup::value_barrier(0, case.r3) as usize;
+    let zero = lookup::unknown_zero(case.r3);
     let mut a: u16 = 0;
     while a < turns {
         let to = a as usize ^ first;

@@ -49,7 +49,7 @@ fn prepare(case: Case, scratch: &mut [u8])
 }
 
 // Every turn stores its entry, in the register that the scratch names. The registers stay behind a reference: a copy would load both at once.
-// `zero` comes from a barrier, so that the compiler cannot know it.
+// `zero` is 0, and the compiler does not know it.
 fn select(case: Case, table: &[u8], scratch: &[u8], registers: &mut [u8; 2])
     requires { ⌜ Bounded case ⌝ }
     requires { ⌜ length (now table) ≡ 2 ^ case .n ⌝ }
@@ -58,7 +58,7 @@ fn select(case: Case, table: &[u8], scratch: &[u8], registers: &mut [u8; 2])
     ensures { λ _. ⌜ now (registers .exit) ≡ registers-3 (Q case) case (now (table .entry)) ⌝ }
 {
     let turns = bits::power(case.n) as u16;
-    let zero = lookup::value_barrier(0, case.r3) as usize;
+    let zero = lookup::unknown_zero(case.r3);
     let mut a: u16 = 0;
     while a < turns {
         let at = place(case, a);

@@ -14,7 +14,7 @@ abbrev μ : tie.MeasureT-loop
 pub fill-spec : {M : Type 1} → statement M
 fill-spec =
     tie.close
-    (tie.spec Inv μ (λ c κs. search needs) (λ c. search needs) (λ c κs. search needs) (λ c κs. search needs) (λ c. search needs)
-    (λ c. search filling-begins) (λ c. search needs)
+    (tie.spec Inv μ (λ c κs. search needs) (λ c. search needs) (λ c κs. search needs) (λ c κs. search needs) (λ c. search filling-begins)
+    (λ c. search needs)
     (λ c κs. (search needs, (search needs, (search needs, (search (filling-in-scratch, from-first), search needs)))))
     (λ c. search needs) (λ c. search needs) (λ c. search (filling-put, from-first)) (λ c. search needs) (λ c. search filling-ends))

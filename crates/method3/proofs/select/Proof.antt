@@ -15,7 +15,7 @@ abbrev μ : tie.MeasureT-loop
 pub select-spec : {M : Type 1} → statement M
 select-spec =
     tie.close
-    (tie.spec Inv μ (λ c κs. search needs) (λ c. search needs) (λ c κs. search needs) (λ c. search needs) (λ c. search selecting-begins)
+    (tie.spec Inv μ (λ c κs. search needs) (λ c. search needs) (λ c κs. search needs) (λ c. search selecting-begins)
     (λ c κs. search needs)
     (λ c. search place-in-scratch)
     (λ c. omega (arith, c .shared-slice-known3 .given (c .before .place .result)))
