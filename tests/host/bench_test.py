@@ -1,6 +1,6 @@
 # Runs the linked bench program on sheets, and compares what it prints and its exit status with the model: from files, through a pipe in
 # pieces that it must read one by one, on input longer than it can hold, on random and mutated input, and at a terminal, where alone it says
-# what it waits for, on standard error.
+# what it waits for, on standard error, before anything is typed.
 # Run: python3 tests/host/bench_test.py PROGRAM, or with --control behind it for wrong programs, each of which a way must notice.
 # The status is 0, or 1 where something differs, is missing or goes unnoticed.
 import contextlib
@@ -9,6 +9,7 @@ import itertools
 import os
 import pty
 import random
+import select
 import signal
 import subprocess
 import sys
@@ -21,6 +22,7 @@ import model
 import sheets
 
 LONGEST_RUN = 20  # seconds
+LONGEST_SILENCE = 5  # seconds at a terminal, until typing begins all the same
 
 
 # Standard input, output and error are files, used again for each run: starting the program is most of the work.
@@ -75,17 +77,28 @@ def typed_texts():
     yield from (b"", b"waiting\n", sheets.SAMPLE, sheets.sheet(sheets.P2, sheets.TABLE_A))
 
 
+# A line, or less where the program ends or is silent.
+def first_line(stream):
+    line, piece = b"", b"any"
+    while piece and not line.endswith(b"\n") and select.select([stream], [], [], LONGEST_SILENCE)[0]:
+        piece = os.read(stream.fileno(), 4096)
+        line += piece
+    return line
+
+
+# What is said before anything is typed, and what afterwards, stand around a mark.
 def at_terminal(command, texts):
     for text in texts:
         ours, theirs = pty.openpty()
         process = subprocess.Popen(command, stdin=theirs, stdout=subprocess.PIPE, stderr=subprocess.PIPE)
         os.close(theirs)
         signal.alarm(LONGEST_RUN)
+        before = first_line(process.stderr)
         os.write(ours, text + b"\x04")
         printed, said = process.communicate()
         signal.alarm(0)
         os.close(ours)
-        yield text, process.returncode, printed, said
+        yield text, process.returncode, printed, before + TYPING + said
 
 
 def long_texts():
@@ -107,13 +120,14 @@ WAYS = {
     "terminal": (at_terminal, typed_texts, 4),
 }
 WAITING = b"waiting for a case sheet (docs/REFERENCE.md has its form); Ctrl-D ends it\n"
+TYPING = b"TYPING\n"
 
 
 # How many inputs were compared, and those on which the program differs from the model.
 def compare(way, command, limit=None):
     run, texts, _ = WAYS[way]
     compared, differing = 0, []
-    wanted = WAITING if way == "terminal" else b""
+    wanted = WAITING + TYPING if way == "terminal" else b""
     for text, status, printed, said in run(command, itertools.islice(texts(), limit)):
         compared += 1
         if (status, printed, said) != (0, model.bench(text), wanted):
@@ -130,6 +144,9 @@ def test(program):
             yield f"{way}: {count} inputs are wanted"
 
 
+# Shell for programs that read all first.
+SAY = f"echo '{WAITING.decode().strip()}' >&2"
+HAND_ON = "printf %s \"${text%.}\""
 # Wrong programs over the right one, $0: what is wrong, the way that must notice it, on how many inputs, and how the shell makes it so.
 WRONG = [
     ("a refusal's number", "files", 305, '"$0" | sed "s/^  12$/  11/"'),
@@ -139,8 +156,11 @@ WRONG = [
     ("only the first read", "pieces", 20, 'dd bs=4096 count=1 2>/dev/null | "$0"'),
     ("only the front of long input", "long", 1, 'head -c 51 | "$0"'),
     ("bytes from 128 on as spaces", "mutated", 400, r"""tr '\200-\377' ' ' | "$0" """),
-    ("silence at a terminal", "terminal", 4, 'cat | "$0"'),
-    ("what is said at a terminal, printed", "terminal", 4, '"$0" 2>&1'),
+    # those that are silent take LONGEST_SILENCE for each input
+    ("silence at a terminal", "terminal", 1, 'cat | "$0"'),
+    ("what is said at a terminal, printed", "terminal", 1, '"$0" 2>&1'),
+    ("what is said at a terminal, said when the input has ended", "terminal", 1, f'text=$(cat; echo .); {SAY}; {HAND_ON} | "$0"'),
+    ("what is said at a terminal, said twice", "terminal", 4, f'{SAY}; "$0"'),
     ("a word where there is no terminal", "files", 20, 'echo waiting >&2; "$0"'),
     *(("the status", way, 20, '"$0"; exit 3') for way in WAYS),
     *(("a signal", way, 20, '"$0"; kill -KILL $$') for way in WAYS),

@@ -32,6 +32,9 @@ struct seen {
 // By the place that the answer is read from, r3. In the watched frame no two lookups have the same.
 static struct seen lookups[ENTRIES];
 static unsigned answers, beside, nonzero_writes;
+// The page as the last step left it, and how many bytes changed since that were no write's place.
+static uint8_t *shadow;
+static unsigned changed_beside;
 // The last writes, in a ring, and the one that is under way.
 static struct write writes[WRITES], *writing;
 static unsigned next_write;
@@ -82,13 +85,28 @@ static void on_access(int number, siginfo_t *info, void *context) {
     registers[REG_EFL] |= TRAP_FLAG;
 }
 
+// A wide store changes more than the byte that it is seen at. Only zeros beside a zero may: so is scratch cleared, many bytes at once.
+static void compare_with_shadow(bool zero_written) {
+    if (memcmp(shadow, scratch, page_length) == 0) {
+        return;
+    }
+    for (size_t place = 0; place < page_length; place++) {
+        bool cleared = zero_written && place < ENTRIES && scratch[place] == 0;
+        changed_beside += scratch[place] != shadow[place] && !cleared;
+    }
+    memcpy(shadow, scratch, page_length);
+}
+
 static void on_step(int number, siginfo_t *info, void *context) {
     (void)number, (void)info;
+    bool zero_written = false;
     if (writing != NULL) {
-        writing->value = scratch[writing->place];
-        nonzero_writes += writing->value != 0;
+        writing->value = shadow[writing->place] = scratch[writing->place];
+        zero_written = writing->value == 0;
+        nonzero_writes += !zero_written;
         writing = NULL;
     }
+    compare_with_shadow(zero_written);
     mprotect(scratch, page_length, PROT_NONE);
     ((ucontext_t *)context)->uc_mcontext.gregs[REG_EFL] &= ~(greg_t)TRAP_FLAG;
 }
@@ -108,9 +126,10 @@ static uint32_t watch(frame_call *call, struct frame_trial *trial, size_t length
     lent[SCRATCH].bytes = scratch;
     lent[SCRATCH].length = length;
     memset(lookups, 0, sizeof lookups);
-    answers = beside = nonzero_writes = next_write = 0;
+    answers = beside = nonzero_writes = changed_beside = next_write = 0;
     writing = NULL;
     memset(scratch, 0xff, page_length);
+    memset(shadow, 0xff, page_length);
     handle(SIGSEGV, on_access, &access_before);
     handle(SIGTRAP, on_step, &step_before);
     mprotect(scratch, page_length, PROT_NONE);
@@ -136,7 +155,7 @@ static bool filled(const struct seen *lookup, uint8_t r_prime, uint8_t s2, unsig
     return first->clean;
 }
 
-// How many writes for each entry a lookup made, or 0.
+// How many writes for each entry a lookup made, or 0. All lookups of a frame must make the same.
 static unsigned writes_an_entry(const struct seen *lookup, uint8_t r_prime, uint8_t s2) {
     return filled(lookup, r_prime, s2, 1) ? 1 : filled(lookup, r_prime, s2, 2) ? 2 : 0;
 }
@@ -156,19 +175,25 @@ static bool masked(const struct seen *lookup, const uint8_t masks[3]) {
     return true;
 }
 
-static void lend_scratch(void) {
-    page_length = (size_t)sysconf(_SC_PAGESIZE);
-    scratch = mmap(NULL, page_length, PROT_READ | PROT_WRITE, MAP_PRIVATE | MAP_ANONYMOUS, -1, 0);
-    if (scratch == MAP_FAILED) {
+static uint8_t *new_page(void) {
+    uint8_t *page = mmap(NULL, page_length, PROT_READ | PROT_WRITE, MAP_PRIVATE | MAP_ANONYMOUS, -1, 0);
+    if (page == MAP_FAILED) {
         record(false, "the system lends no memory");
         exit(1);
     }
+    return page;
+}
+
+static void lend_scratch(void) {
+    page_length = (size_t)sysconf(_SC_PAGESIZE);
+    scratch = new_page();
+    shadow = new_page();
 }
 
 // A lookup's entries are all bytes, each once, so one of its 256 is zero, with s2 and without; clearing writes none that is not.
 static void watch_at_length(size_t length) {
     struct frame_trial trial = stored_trial(&frame_cases[frame_case_count - 1]);
-    unsigned passes = 0;
+    unsigned passes = 0, writes_first = 0;
     record(watch(cippazhey_encrypt_frame, &trial, length) == CIPPAZHEY_ACCEPTED, "watched frame");
     record(answers == LOOKUPS && beside == 0, "number of lookups, and nothing beside them");
     record(all_zero(), "watched scratch after the last lookup");
@@ -177,11 +202,12 @@ static void watch_at_length(size_t length) {
         const struct seen *lookup = &lookups[masks[2]];
         unsigned writes_each = writes_an_entry(lookup, last_r_primes[each], masks[1]);
         passes += writes_each;
+        writes_first = each == 0 ? writes_each : writes_first;
         record(lookup->times == 1, "one lookup for each r3");
-        record(writes_each != 0, "cleared scratch filled in the order of method 2");
+        record(writes_each != 0 && writes_each == writes_first, "cleared scratch filled in the order of method 2, as often as before");
         record(masked(lookup, masks), "entries under their masks");
     }
-    record(nonzero_writes == passes * (ENTRIES - 1), "nothing written but entries and zeros");
+    record(nonzero_writes == passes * (ENTRIES - 1) && changed_beside == 0, "nothing written but entries and zeros, nor beside them");
 }
 
 // Scratch that is just long enough, and longer.

@@ -40,6 +40,8 @@ CLEAR = "memset(lent.scratch, 0, SCRATCH_LENGTH);"
 CLEAR_BEFORE = "    clear(lent);\n    for (int a = 0; a < 256; a++) {\n"
 PLACE = "lent.scratch[a ^ r_prime]"
 ENTRY = "(aes_sbox[x0 ^ a] ^ s1) ^ s2;"
+WRITE = f"{PLACE} = {ENTRY}"
+UNDER_S1 = "aes_sbox[x0 ^ a] ^ s1"
 ANSWER = "    byte[0] = lent.scratch[r3];\n"
 LAST_CLEAR = "        add_round_key(state, words, round);\n    }\n    clear(lent);\n"
 
@@ -53,8 +55,14 @@ def before(line, *added):
 
 
 # What stands at an entry's place before the entry does.
-def written_first(value):
-    return f"{PLACE} = {ENTRY}", f"*(volatile uint8_t *)&{PLACE} = {value};\n        {PLACE} = {ENTRY}"
+def written_first(value, where="1"):
+    return WRITE, f"if ({where}) {{ *(volatile uint8_t *)&{PLACE} = {value}; }}\n        {WRITE}"
+
+
+# An entry is written with the secret byte behind it, in one store. The next entry hides it, where its place is the next one.
+def with_secret_behind(entry):
+    wide = f"*(volatile uint16_t *)&{PLACE} = (uint16_t)(({entry}) | (x0 ^ r1 ^ r2) << 8);"
+    return f"if (a % 2 == 0 && r_prime % 2 == 0) {{ {wide} }} else {{ *(volatile uint8_t *)&{PLACE} = {entry}; }}"
 
 
 # What is done at each byte, up to a length.
@@ -198,6 +206,8 @@ ENDS_OF_PAGES = {
     "a result written back on refusal": writes_back(REFUSED, "share3[15]"),
     "scratch written back on refusal": before(REFUSED, "if (scratch_length > 0) { *(volatile uint8_t *)scratch = scratch[0]; }"),
 }
+# Right too: each entry is written under s1 alone first.
+TWICE = written_first(UNDER_S1)
 # What no result shows. To watch takes a second.
 WATCHED = {
     "scratch not cleared before a lookup": (CLEAR_BEFORE, CLEAR_BEFORE.replace("    clear(lent);\n", "")),
@@ -208,6 +218,14 @@ WATCHED = {
     "another mask for the other entries": (ENTRY, ENTRY.replace("^ s2", "^ ((a ^ r_prime) == r3 ? s2 : 0)")),
     "an entry written without masks first": written_first("aes_sbox[x0 ^ a]"),
     "an entry written under s2 first": written_first("aes_sbox[x0 ^ a] ^ s2"),
+    "an entry written under s2 first in one lookup": (TWICE[0], TWICE[1].replace("^ s1; }", "^ (round == 5 && j == 9 ? s2 : s1); }")),
+    "only entry 0 written twice": written_first(UNDER_S1, "a == 0"),
+    "three writes an entry": (WRITE, f"*(volatile uint8_t *)&{PLACE} = {UNDER_S1};\n        {TWICE[1]}"),
+    "two writes an entry in one lookup": written_first(UNDER_S1, "round == 5 && j == 9"),
+    "one write an entry in one lookup of two": written_first(UNDER_S1, "round != 5 || j != 9"),
+    "two writes an entry in every other lookup": written_first(UNDER_S1, "j % 2"),
+    "the secret byte behind an entry": (WRITE, with_secret_behind(ENTRY.rstrip(";"))),
+    "the secret byte behind the first of two writes": (WRITE, f"{with_secret_behind(UNDER_S1)}\n        {WRITE}"),
     "an answer read twice": (ANSWER, f"    (void)*(volatile uint8_t *)&lent.scratch[r3];\n{ANSWER}"),
     "the secret byte left after a lookup": (ANSWER, ANSWER + SECRET),
     "the secret byte left before a lookup": (CLEAR_BEFORE, SECRET + CLEAR_BEFORE),
@@ -273,9 +291,10 @@ def noticed(done):
 def complaints(folder):
     build_objects(folder)
     reference = (HOST / "frame_reference.c").read_text()
-    done = run(folder, reference)
-    if noticed(done) or done.returncode != 0:
-        yield "the reference itself does not pass"
+    for right, *group in ([reference], [edited(reference, *TWICE), "watched_scratch"]):
+        done = run(folder, right, *group)
+        if noticed(done) or done.returncode != 0:
+            yield f"the reference itself, or with two writes an entry, does not pass\n{done.stdout}"
     for common, groups in ((False, WRONG_FRAMES), (True, COMMON_FAULTS)):
         for group, frames in groups.items():
             for name, (old, new) in frames.items():
