@@ -38,7 +38,7 @@ pub fn value_barrier(value: u8, index: u32) -> u8
     cells[at]
 }
 
-// 0, as far as the compiler can know any number: a mask, joined with itself as a barrier hands it back.
+// 0, which the compiler does not know: a mask, joined with what a barrier hands back of it.
 pub fn unknown_zero(mask: u32) -> usize
     ensures { λ r. ⌜ r ≡ 0 ⌝ }
 {
