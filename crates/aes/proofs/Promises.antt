@@ -2,7 +2,7 @@
 use mathlib.Core.Path.{refl}
 use Rattle.bits.specs.Xor.{_⊕_}
 use Rattle.table.specs.Balanced.{at}
-use Rattle.sbox.specs.Tabulate.{tabulate}
+use Rattle.table.specs.Tabulate.{tabulate}
 use Rattle.sbox.specs.Field.{xtime, times-bits, times, square, inverse}
 use Rattle.sbox.specs.Sbox.{bit, constant, affine-bit, from-bits, affine, sbox}
 use Rattle.aes.specs.State.{four, column, byte, state-of, word-from, state-from, add-words}

@@ -2,6 +2,7 @@
 use mathlib.Core.Path.{_≡_, refl}
 use mathlib.Core.List.{List, _++_, append-nil}
 use Prim.Native.Nat.{ℕ, _+_, _≤_, _<_}
+use native.Mathlib.Nat.{le-refl}
 use native.Mathlib.Omega.{arith}
 use borrow.Author.Fill.{fill-none, fill-more}
 use lib.ListN.{length, drop, set, replicate, length-set}
@@ -30,6 +31,11 @@ module _ (value size : ℕ) (before : List ℕ) where
   front-ends now i h f =
       let whole : i ≡ size = omega (arith, f .within) in
       rw whole at (f .filled)
+
+-- a turn of a loop over the whole buffer: its test is of the buffer as it stands, whose length has not changed
+pub front-whole-turns : (value : ℕ) (before now : List ℕ) (i : ℕ) → i < length now → Front value (length before) before now i
+    → Front value (length before) before (set now i value) (i + 1)
+front-whole-turns value before now i h f = front-turns value (length before) before now i (le-refl _) (omega (arith, f .long)) f
 
 -- the whole buffer, where the loop has gone to its end
 pub front-whole : (value : ℕ) (before now : List ℕ) (i : ℕ) → length now ≤ i → Front value (length before) before now i

@@ -30,3 +30,12 @@ written-long log position es h =
 pub written-front : (log es : List ℕ) → written log 0 es ≡ in-front es log
 unfolding written in-front
 written-front log es = rw zero-add
+
+-- what stands in front, and what stands behind it
+pub in-front-take : (new old : List ℕ) (k : ℕ) → length new ≡ k → take k (in-front new old) ≡ new
+unfolding in-front
+in-front-take new old k e = take-at new _ k e
+
+pub in-front-drop : (new old : List ℕ) (k : ℕ) → length new ≡ k → drop k (in-front new old) ≡ drop k old
+unfolding in-front
+in-front-drop new old k e = drop-at new _ k e ∙ ap (λ n. drop n old) e

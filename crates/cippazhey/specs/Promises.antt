@@ -5,7 +5,7 @@ use Prim.Native.Nat.{ℕ, _+_, _^_, _<_}
 use lib.ListN.{length}
 use Rattle.bits.specs.Xor.{_⊕_}
 use Rattle.table.specs.Balanced.{at}
-use Rattle.sbox.specs.Tabulate.{tabulate}
+use Rattle.table.specs.Tabulate.{tabulate}
 use Rattle.aes.specs.State.{State, Bytes}
 use Rattle.aes.specs.Cipher.{cipher}
 use Rattle.frame_lookups.specs.Shares.{joined}

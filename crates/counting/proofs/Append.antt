@@ -1,9 +1,10 @@
 -- Widths that are appended: a choice of them is a choice of the first and one of the second, so what sees only one of the two is a factor.
 use mathlib.Core.Path.{_≡_, refl, sym, ap, _∙_}
 use mathlib.Core.List.{List, [], _∷_, _++_}
-use Prim.Native.Nat.{ℕ, zero, suc, _+_, _*_, _^_}
-use native.Mathlib.Nat.{add-assoc, zero-add, suc-add, mul-comm}
-use lib.ListN.{length}
+use Prim.Native.Nat.{ℕ, zero, suc, _+_, _*_, _^_, _≤_}
+use native.Mathlib.Nat.{add-assoc, zero-add, suc-add, mul-comm, le-trans}
+use native.Mathlib.Omega.{arith}
+use lib.ListN.{length, take, drop, take-append-drop}
 use Rattle.counting.specs.Choice.{_▸_, over, width, Within, total}
 use Rattle.counting.proofs.Choice.{within-none, within-more, within-rest}
 use Rattle.counting.proofs.Sum.{sum-ext, sum-times}
@@ -50,3 +51,16 @@ pub total-append : (ws vs : List ℕ) → total (ws ++ vs) ≡ total ws + total 
 unfolding total
 total-append [] vs = sym (zero-add (total vs))
 total-append (w ∷ ws) vs = ap (λ t. w + t) (total-append ws vs) ∙ sym (add-assoc w (total ws) (total vs))
+
+-- some of the widths are no more than all together
+pub total-front : (ws : List ℕ) (i : ℕ) → total (take i ws) ≤ total ws
+total-front ws i =
+    let parts : total (take i ws) + total (drop i ws) ≡ total ws
+    = sym (total-append (take i ws) (drop i ws)) ∙ ap total (take-append-drop i ws) in
+    omega (arith, parts)
+
+pub width-most : (ws : List ℕ) (i : ℕ) → width ws i ≤ total ws
+unfolding width total
+width-most [] i = omega arith
+width-most (w ∷ ws) zero = omega arith
+width-most (w ∷ ws) (suc i) = le-trans (width-most ws i) (omega arith)

@@ -1,9 +1,8 @@
 -- The laws of finite sums.
-use mathlib.Core.Path.{_≡_, refl, sym, ap₂, _∙_}
+use mathlib.Core.Path.{_≡_, refl, sym, ap, ap₂, _∙_}
 use mathlib.Core.Bool.{cond}
-use Prim.Native.Nat.{ℕ, zero, suc, _+_, _*_, _<_}
-use native.Mathlib.Nat.{le-refl, le-of-suc-le-suc, not-suc-le-zero, add-assoc, add-mul, mul-zero, zero-mul, zero-add}
-use native.Mathlib.Numerals.{add-one}
+use Prim.Native.Nat.{ℕ, zero, suc, _+_, _*_, _≤_, _<_}
+use native.Mathlib.Nat.{le-refl, le-of-suc-le-suc, not-suc-le-zero, add-assoc, add-zero, add-suc, add-mul, mul-zero, zero-mul, zero-add}
 use native.Mathlib.Omega.{arith}
 use lib.Dec.{eqb, eqb·zero-suc, eqb·suc-zero, eqb·suc-suc}
 use Rattle.counting.specs.Sum.{sum}
@@ -24,6 +23,12 @@ unfolding sum
 sum-const zero a = omega arith
 sum-const (suc k) a = rw (sum-const k a) (omega arith)
 
+-- terms that are no more than a
+pub sum-most : (k a : ℕ) {f : ℕ → ℕ} → ((i : ℕ) → f i ≤ a) → sum k f ≤ k * a
+unfolding sum
+sum-most zero a h = omega arith
+sum-most (suc k) a h = omega (arith, sum-most k a h, h k)
+
 -- a common factor
 pub sum-times : (k : ℕ) (f : ℕ → ℕ) (a : ℕ) → sum k (λ i. f i * a) ≡ sum k f * a
 unfolding sum
@@ -36,13 +41,24 @@ unfolding sum
 sum-swap zero k f = sym (sum-const k 0 ∙ mul-zero k)
 sum-swap (suc j) k f = rw (sum-swap j k f) (sym (sum-add k (λ b. sum j (λ a. f a b)) (f j)))
 
--- the terms taken by twos
+-- the first terms, and those behind them
+pub sum-append : (j k : ℕ) (f : ℕ → ℕ) → sum (j + k) f ≡ sum j f + sum k (λ i. f (j + i))
+unfolding sum
+sum-append j zero f = rw (add-zero j) (sym (add-zero (sum j f)))
+sum-append j (suc k) f = rw (add-suc j k) (ap (λ s. s + f (j + k)) (sum-append j k f) ∙ add-assoc _ _ _)
+
+-- the terms taken by so many
+pub sum-blocks : (k size : ℕ) (f : ℕ → ℕ) → sum (k * size) f ≡ sum k (λ i. sum size (λ r. f (i * size + r)))
+unfolding sum
+sum-blocks zero size f = rw (zero-mul size)
+sum-blocks (suc k) size f =
+    let more : suc k * size ≡ k * size + size = omega arith in
+    rw more (sum-append (k * size) size f ∙ ap (λ s. s + sum size (λ r. f (k * size + r))) (sum-blocks k size f))
+
+-- by twos
 pub sum-pairs : (k : ℕ) (f : ℕ → ℕ) → sum (k * 2) f ≡ sum k (λ i. f (i * 2) + f (i * 2 + 1))
 unfolding sum
-sum-pairs zero f = refl
-sum-pairs (suc k) f =
-    let twice : suc k * 2 ≡ suc (suc (k * 2)) = omega arith in
-    rw twice (rw (sum-pairs k f, add-one) (add-assoc _ _ _))
+sum-pairs k f = sum-blocks k 2 f ∙ sum-ext k (λ i _. ap (λ s. s + f (i * 2 + 1)) (zero-add _ ∙ ap f (add-zero _)))
 
 -- the first term apart from the rest
 pub sum-first : (k : ℕ) (f : ℕ → ℕ) → sum (suc k) f ≡ f 0 + sum k (λ i. f (suc i))

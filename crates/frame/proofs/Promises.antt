@@ -8,7 +8,7 @@ use lib.Seq.{take-at, drop-at}
 use Rattle.refusals.specs.Checks.{first-of}
 use Rattle.refusals.specs.Left.{left}
 use Rattle.table.specs.Balanced.{at}
-use Rattle.sbox.specs.Tabulate.{tabulate}
+use Rattle.table.specs.Tabulate.{tabulate}
 use Rattle.aes.specs.State.{four, column, byte, state-of, word-from, state-from}
 use Rattle.frame_lookups.specs.Shares.{Shares, share, joined}
 use Rattle.frame_lookups.specs.Scratch.{cleared}

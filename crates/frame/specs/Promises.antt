@@ -6,7 +6,7 @@ use Prim.Native.Nat.{ℕ, _+_, _*_, _/_, _%_, _≤_, _<_}
 use lib.ListN.{length, take, drop, replicate}
 use Rattle.bits.specs.Xor.{_⊕_}
 use Rattle.table.specs.Balanced.{at, count-of}
-use Rattle.sbox.specs.Tabulate.{tabulate}
+use Rattle.table.specs.Tabulate.{tabulate}
 use Rattle.aes.specs.State.{State, state-from, Bytes}
 use Rattle.aes.specs.Cipher.{cipher}
 use Rattle.screening.specs.Report.{faulty-run}

@@ -1,7 +1,7 @@
-// Log entries: written, and taken apart. Nothing here knows a method: a method hands over the kinds and the values of a part.
+// Log entries: written, taken apart, and cleared. Nothing here knows a method: a method hands over the kinds and the values of a part.
 ghost use mathlib.Core.Path.{_≡_};
 ghost use Prim.Native.Nat.{_+_, _≤_};
-ghost use lib.ListN.{length};
+ghost use lib.ListN.{length, replicate};
 ghost use Rattle.buffers.specs.Written.{written};
 ghost use Rattle.lookup.specs.Entry.{entry as Entry·entry, kind-of, value-of};
 ghost use Rattle.log_entries.specs.Entries.{entries};
@@ -35,4 +35,15 @@ pub fn value(entry: u16) -> u32
     ensures { λ r. ⌜ r ≡ value-of entry ⌝ }
 {
     (entry % 256) as u32
+}
+
+// Sets the whole log to zero.
+pub fn clear(log: &mut [u16])
+    ensures { λ _. ⌜ now (log .exit) ≡ replicate (length (now (log .entry))) 0 ⌝ }
+{
+    let mut at = 0;
+    while at < log.len() {
+        log[at] = 0;
+        at += 1;
+    }
 }

@@ -1,9 +1,10 @@
 -- The methods by their numbers: what is proved of each holds of the one that a number finds.
-use mathlib.Core.Path.{_≡_, sym, ap}
+use mathlib.Core.Path.{_≡_, sym, ap, _∙_}
 use mathlib.Core.Logic.{_⊎_, inl, inr}
 use mathlib.Core.Bool.{Bool, true, false, cond, _||_, true≢false}
 use mathlib.Core.List.{List}
 use Prim.Native.Nat.{ℕ}
+use native.Mathlib.Decide.{ℕ-discrete}
 use borrow.Author.Tests.{ne-eqb}
 use lib.Dec.{eqb}
 use Rattle.lookup.specs.Method.{Method, no-method}
@@ -39,6 +40,15 @@ pub known-2-or-3 : {k : ℕ} → (k ≡ 2) ⊎ (k ≡ 3) → known k ≡ true
 unfolding known among
 known-2-or-3 (inl e) = ap known e
 known-2-or-3 (inr e) = ap known e
+
+pub two-or-three : (k : ℕ) → known k ≡ true → (k ≡ 2) ⊎ (k ≡ 3)
+unfolding known among
+two-or-three k e = by-cases (ℕ-discrete k 2) (ℕ-discrete k 3)
+  where
+    by-cases : Dec (k ≡ 2) → Dec (k ≡ 3) → (k ≡ 2) ⊎ (k ≡ 3)
+    by-cases (yes p) d = inl p
+    by-cases (no not-2) (yes p) = inr p
+    by-cases (no not-2) (no not-3) = absurd (true≢false (sym e ∙ rw (ne-eqb k 2 not-2, ne-eqb k 3 not-3)))
 
 -- or it is none's
 module _ (k : ℕ) (not-2 : k ≡ 2 → ⊥) (not-3 : k ≡ 3 → ⊥) where

@@ -2,9 +2,10 @@
 use mathlib.Core.Path.{_≡_, refl, sym, ap, _∙_}
 use mathlib.Core.Logic.{_⊎_, inl, inr}
 use mathlib.Core.List.{List, map}
-use Prim.Native.Nat.{ℕ, _^_}
+use Prim.Native.Nat.{ℕ, max, _^_, _<_}
 use native.Mathlib.Omega.{arith}
 use lib.ListN.{replicate}
+use lib.Pow.{pow-pos}
 use Rattle.bits.specs.Xor.{_⊕_}
 use Rattle.bits.proofs.Xor.{xors, below}
 use Rattle.table.specs.Balanced.{at}
@@ -18,15 +19,15 @@ use Rattle.lookup.specs.Methods.{found, method-of}
 use Rattle.lookup.specs.Call.{answer, scratch-after, log-of, log-length, scratch-length}
 use Rattle.lookup.specs.Refusals.{case-refusal}
 use Rattle.lookup.specs.Promises.{Answer-right, Answer-small, Answer-kept, Rest-kept, Began-clean, Zeros-taken, Cleared-taken}
-use Rattle.lookup.specs.Promises.{Lengths-right, Log-long, Log-read-back}
-use Rattle.lookup.proofs.Each.{each-map}
+use Rattle.lookup.specs.Promises.{Lengths-right, Log-long, Values-small, Log-read-back}
+use Rattle.lookup.proofs.Each.{Each, each-map, each-at}
 use Rattle.lookup.proofs.Methods.{of-each, method-2-of}
-use Rattle.lookup.proofs.Entry.{entry-kind, entry-value, value-kept, entry-small, none-large}
+use Rattle.lookup.proofs.Entry.{entry-kind, entry-value, value-zero, value-kept, entry-small, none-large}
 use Rattle.lookup.proofs.Accepted.{Taken, accepted}
 use Rattle.lookup.proofs.Refused.{Clean, zeros-clean, zeros-before, cleared, log-not-refused, logged-plain, plain-by-case, logged-by-plain}
 use Rattle.lookup.proofs.Second.{byte-r3}
 use Rattle.lookup.proofs.Layouts.{lines-long, each-line, lines-map, lines-agree}
-use Rattle.lookup.proofs.Right.{Small, Right, right}
+use Rattle.lookup.proofs.Right.{Small, value-byte, Right, right}
 
 -- what is proved of the method that was taken
 pub taken-right : (c : Case) (table : List ℕ) → Taken c table → Right (method-of (c .method))
@@ -82,19 +83,29 @@ pub lengths-right : Lengths-right
 unfolding Lengths-right log-length scratch-length method-of found
 lengths-right n = (omega arith, omega arith, refl, refl)
 
+-- what holds of the entry of every small row holds of every entry
+each-entry : {P : ℕ → Type 0} (table : List ℕ) (c : Case) → Taken c table → ((a : ℕ) (r : Row) → Small c table a r → P (row-entry c table a r))
+    → Each P (log-of c table)
+unfolding log-of Q
+each-entry table c taken h =
+    let small = taken-right c table taken in
+    each-line (row-entry c table) (2 ^ c .n) (method-of (c .method) .layout) (each-map (h 0) (small .head c table (taken .1)))
+    (λ a l. each-map (h a) (small .passes c table (taken .1) a l)) (each-map (h 0) (small .end c table (taken .1)))
+
 pub log-long : Log-long
 unfolding Log-long log-of log-length Q
 log-long table c e =
-    let taken = accepted c table e in
-    let small = taken-right c table taken in
-    let layout = method-of (c .method) .layout in (
-      lines-long (row-entry c table) (2 ^ c .n) layout,
-      none-large entry-limit
-          (each-line (row-entry c table) (2 ^ c .n) layout
-          (each-map (λ r s. entry-small (s .kind) (s .value)) (small .head c table (taken .1)))
-          (λ a h. each-map (λ r s. entry-small (s .kind) (s .value)) (small .passes c table (taken .1) a h))
-          (each-map (λ r s. entry-small (s .kind) (s .value)) (small .end c table (taken .1)))),
+    let taken = accepted c table e in (
+      lines-long (row-entry c table) (2 ^ c .n) (method-of (c .method) .layout),
+      none-large entry-limit (each-entry table c taken (λ a r s. entry-small (s .kind) (value-byte (taken .1) s))),
     )
+
+pub values-small : Values-small
+unfolding Values-small at
+values-small table c e i =
+    let taken = accepted c table e in
+    each-at {P = λ v. value-of v < 2 ^ max (c .n) (c .m)} 0 i (rw value-zero (pow-pos _))
+    (each-entry table c taken (λ a r s. rw (entry-value (r .kind) (r .value c table a), value-kept (value-byte (taken .1) s)) (s .value)))
 
 -- one reading of every entry: what it gives of a small row is what the row has
 read-back : (read : ℕ → ℕ) (wanted : ℕ → Row → ℕ) (table : List ℕ) (c : Case) → case-refusal c table ≡ 0
@@ -112,6 +123,6 @@ read-back read wanted table c e h =
 pub log-read-back : Log-read-back
 unfolding Log-read-back
 log-read-back table c e = (
-  read-back kind-of (λ a r. r .kind) table c e (λ a r s. entry-kind (s .value)),
-  read-back value-of (λ a r. r .value c table a) table c e (λ a r s. entry-value _ _ ∙ value-kept (s .value)),
+  read-back kind-of (λ a r. r .kind) table c e (λ a r s. entry-kind (value-byte (accepted c table e .1) s)),
+  read-back value-of (λ a r. r .value c table a) table c e (λ a r s. entry-value _ _ ∙ value-kept (value-byte (accepted c table e .1) s)),
 )

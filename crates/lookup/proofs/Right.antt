@@ -1,8 +1,9 @@
--- What is proved of each method: its answer, the scratch behind what it needs, and that every row's kind and value have eight bits.
+-- What is proved of each method: its answer, the scratch behind what it needs, and that every row's kind has eight bits and its value the
+-- larger of the two widths.
 use mathlib.Core.Path.{_≡_}
 use mathlib.Core.List.{List}
-use Prim.Native.Nat.{ℕ, _+_, _*_, _-_, _^_, _≤_, _<_}
-use native.Mathlib.Nat.{lt-of-lt-of-le, le-trans, le-refl}
+use Prim.Native.Nat.{ℕ, max, _+_, _*_, _-_, _^_, _≤_, _<_}
+use native.Mathlib.Nat.{lt-of-lt-of-le, le-trans, le-refl, le-max-left, le-max-right, max-le}
 use native.Mathlib.Omega.{arith}
 use lib.Dec.{T, ltb, lit<}
 use lib.ListN.{drop}
@@ -24,7 +25,12 @@ use Rattle.lookup.proofs.Each.{Each, none, more, each-append}
 
 pub record Small (c : Case) (table : List ℕ) (a : ℕ) (row : Row) : Type 0 where
   pub kind : row .kind < 256
-  pub value : row .value c table a < 256
+  pub value : row .value c table a < 2 ^ max (c .n) (c .m)
+
+-- which is at most eight
+pub value-byte : {method : Method} {c : Case} {table : List ℕ} {a : ℕ} {row : Row} → Accepted method c table → Small c table a row
+    → row .value c table a < 256
+value-byte k s = lt-of-lt-of-le (s .value) (pow-mono (max-le (k .table .input-most) (le-trans (k .table .output-most) (k .table .input-most))))
 
 pub record Right (method : Method) : Type 0 where
   pub answers : (c : Case) (table : List ℕ) → Accepted method c table → method .answer c table ≡ masked c table (c .r1 ⊕ c .r2)
@@ -42,13 +48,13 @@ module _ (method : Method) (c : Case) (table : List ℕ) (k : Accepted method c 
   -- a row whose value has the input's width, the output's, or one bit
   input : {a : ℕ} {v : Value} (kind : ℕ) → T (ltb kind 256) → v c table a < Q c → Small c table a (kind ∶ v)
   unfolding Q
-  input kind t h = record { kind = lit< t; value = lt-of-lt-of-le h (pow-mono (k .table .input-most)) }
+  input kind t h = record { kind = lit< t; value = lt-of-lt-of-le h (pow-mono (le-max-left (c .n) (c .m))) }
 
   output : {a : ℕ} {v : Value} (kind : ℕ) → T (ltb kind 256) → v c table a < 2 ^ c .m → Small c table a (kind ∶ v)
-  output kind t h = record { kind = lit< t; value = lt-of-lt-of-le h (pow-mono (le-trans (k .table .output-most) (k .table .input-most))) }
+  output kind t h = record { kind = lit< t; value = lt-of-lt-of-le h (pow-mono (le-max-right (c .n) (c .m))) }
 
   bit : {a : ℕ} {v : Value} (kind : ℕ) → T (ltb kind 256) → v c table a < 2 → Small c table a (kind ∶ v)
-  bit kind t h = record { kind = lit< t; value = omega arith }
+  bit kind t h = record { kind = lit< t; value = lt-of-lt-of-le h (pow-mono (le-trans (k .table .input-least) (le-max-left (c .n) (c .m)))) }
 
   add : {v u : ℕ} → v < Q c → u < Q c → v ⊕ u < Q c
   unfolding Q

@@ -3,7 +3,7 @@ use mathlib.Core.Path.{_≡_}
 use mathlib.Core.Logic.{_⊎_}
 use mathlib.Core.Bool.{false}
 use mathlib.Core.List.{List, map}
-use Prim.Native.Nat.{ℕ, _+_, _*_, _^_, _≤_, _<_}
+use Prim.Native.Nat.{ℕ, max, _+_, _*_, _^_, _≤_, _<_}
 use lib.ListN.{length, take, drop, replicate}
 use Rattle.bits.specs.Xor.{_⊕_}
 use Rattle.refusals.specs.Tests.{any-from}
@@ -69,6 +69,11 @@ unfoldable pub Log-long : Type 0
 Log-long =
     (table : List ℕ) (c : Case) → case-refusal c table ≡ 0 →
     (length (log-of c table) ≡ log-length (c .method) (c .n)) × (any-from entry-limit (log-of c table) ≡ false)
+
+-- each value has the larger of the two widths
+unfoldable pub Values-small : Type 0
+Values-small =
+    (table : List ℕ) (c : Case) → case-refusal c table ≡ 0 → (i : ℕ) → value-of (at (log-of c table) i) < 2 ^ max (c .n) (c .m)
 
 -- each entry's kind and value are those of its row
 unfoldable pub Log-read-back : Type 0

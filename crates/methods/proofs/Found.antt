@@ -1,10 +1,9 @@
 -- What the method has that a number finds, is what the definitions say of the number.
 use mathlib.Core.Path.{_≡_, refl, sym, ap, subst, _∙_}
 use mathlib.Core.Logic.{inl, inr}
-use mathlib.Core.Bool.{true, false, true≢false}
-use mathlib.Core.List.{List}
+use mathlib.Core.Bool.{true, false}
+use mathlib.Core.List.{List, map}
 use Prim.Native.Nat.{ℕ, _^_, _≤_}
-use native.Mathlib.Decide.{ℕ-discrete}
 use native.Mathlib.Omega.{arith}
 use mir.Syntax.{w16}
 use mir.Val.{Fits}
@@ -15,11 +14,11 @@ use Rattle.lookup.specs.declared.Case.{Case}
 use Rattle.lookup.specs.Case.{Q}
 use Rattle.lookup.specs.Layout.{lines, layout-size}
 use Rattle.lookup.specs.Row.{row-entry}
-use Rattle.lookup.specs.Method.{Method, no-method}
+use Rattle.lookup.specs.Method.{Method, class-width, no-method}
 use Rattle.lookup.specs.Method3.{method-3}
 use Rattle.lookup.specs.Methods.{known, method-of}
 use Rattle.lookup.specs.Call.{answer, scratch-after, log-of, log-length, scratch-length}
-use Rattle.lookup.proofs.Methods.{method-3-of, known-2-or-3, not-known}
+use Rattle.lookup.proofs.Methods.{method-3-of, known-2-or-3, two-or-three, not-known}
 
 pub known-2 : (k : ℕ) → k ≡ 2 → true ≡ known k
 known-2 k e = sym (known-2-or-3 (inl e))
@@ -32,11 +31,7 @@ known-none k h j = sym (not-known k h j)
 
 -- a known method that is not 2 is 3
 pub other-3-of : (k : ℕ) → known k ≡ true → (k ≡ 2 → ⊥) → method-of k ≡ method-3
-other-3-of k e h = method-3-of k (decided (ℕ-discrete k 3))
-  where
-    decided : Dec (k ≡ 3) → k ≡ 3
-    decided (yes p) = p
-    decided (no ne) = absurd (true≢false (sym e ∙ not-known k h ne))
+other-3-of k e not-2 = elim (two-or-three k e) [ inl p ↦ absurd (not-2 p) | inr p ↦ method-3-of k p ]
 
 -- as many turns as a table has entries
 pub turns-fit : (turns n : ℕ) → turns ≡ 2 ^ n → n ≤ 8 → Fits w16 turns
@@ -48,6 +43,10 @@ turns-fit turns n e h =
 module _ (m : Method) (k : ℕ) where
   pub b-most-by : method-of k ≡ m → m .b-most ≡ method-of k .b-most
   b-most-by found = ap (λ (f : Method). f .b-most) (sym found)
+
+  pub mask-widths-by : (i o : ℕ) (told : List ℕ) → method-of k ≡ m → told ≡ map (class-width i o) (m .mask-classes)
+      → told ≡ map (class-width i o) (method-of k .mask-classes)
+  mask-widths-by i o told found e = e ∙ ap (λ (f : Method). map (class-width i o) (f .mask-classes)) (sym found)
 
   pub scratch-length-by : (n told : ℕ) → method-of k ≡ m → told ≡ m .scratch-length (2 ^ n) → told ≡ scratch-length k n
   unfolding scratch-length

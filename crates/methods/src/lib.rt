@@ -1,10 +1,12 @@
 // The methods by their numbers: what each needs and allows, and its runs. A later method has one line in each function here.
 ghost use mathlib.Core.Path.{_≡_};
 ghost use mathlib.Core.Bool.{true};
+ghost use mathlib.Core.List.{map};
 ghost use Prim.Native.Nat.{_^_, _≤_};
 ghost use lib.ListN.{length};
 ghost use Rattle.buffers.specs.Written.{in-front};
 ghost use Rattle.lookup.specs.Bounded.{Bounded};
+ghost use Rattle.lookup.specs.Method.{class-width};
 ghost use Rattle.lookup.specs.Methods.{known as Methods·known, method-of};
 ghost use Rattle.lookup.specs.Call.{answer, scratch-after, log-of, log-length, scratch-length};
 use lookup::Case;
@@ -62,6 +64,17 @@ pub fn log_length(method: u32, n: u32) -> usize
         return method3::log_length(turns);
     }
     0
+}
+
+// The widths of the masks r1, r2, r3, s1, s2 and b, over which a choice runs. The method has been checked, so it has a `requires`.
+pub fn mask_widths(method: u32, n: u32, m: u32) -> [u32; 6]
+    requires { ⌜ Methods·known method ≡ true ⌝ }
+    ensures { λ r. ⌜ r ≡ map (class-width n m) (method-of method .mask-classes) ⌝ }
+{
+    if method == 2 {
+        return [n, n, n, m, m, 0];
+    }
+    [n, n, n, m, m, 1]
 }
 
 // The method's run. The call has checked the case and measured the buffers, so these have a `requires`.

@@ -1,5 +1,4 @@
 -- The laws of the field's inverse and of the S-box.
-pub mod Tabulate
 pub mod Inverse
 pub mod Sbox
 pub mod Promises

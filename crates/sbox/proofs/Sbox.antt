@@ -8,10 +8,10 @@ use Rattle.bits.specs.Xor.{_⊕_}
 use Rattle.refusals.specs.Tests.{any-from}
 use Rattle.table.specs.Balanced.{at, count-of, all-below, each-often, balanced}
 use Rattle.table.proofs.Balanced.{balanced-long, balanced-below, balanced-count}
-use Rattle.sbox.specs.Tabulate.{tabulate}
+use Rattle.table.specs.Tabulate.{tabulate}
 use Rattle.sbox.specs.Field.{xtime, times-bits, times, square, inverse}
 use Rattle.sbox.specs.Sbox.{bit, constant, affine-bit, from-bits, affine, sbox}
-use Rattle.sbox.proofs.Tabulate.{tabulate-at}
+use Rattle.table.proofs.Tabulate.{tabulate-at}
 
 pub sbox-rule : (b : ℕ) → b < 256 → at sbox b ≡ affine (inverse b)
 unfolding sbox

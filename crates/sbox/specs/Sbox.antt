@@ -2,7 +2,7 @@
 use mathlib.Core.List.{List, [], _∷_}
 use Prim.Native.Nat.{ℕ, _+_, _*_, _/_, _%_, _^_}
 use Rattle.bits.specs.Xor.{_⊕_}
-use Rattle.sbox.specs.Tabulate.{tabulate}
+use Rattle.table.specs.Tabulate.{tabulate}
 use Rattle.sbox.specs.Field.{inverse}
 
 -- bit i of a byte, with i modulo 8

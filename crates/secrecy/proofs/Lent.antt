@@ -1,7 +1,7 @@
 -- The logged call accepts every choice that is counted, on clean scratch, and what it leaves in the lent log is the log that the third demand
 -- counts. What it refuses, it refuses for every choice.
 use mathlib.Core.Path.{_≡_, refl, sym, ap, _∙_}
-use mathlib.Core.Logic.{_⊎_}
+use mathlib.Core.Bool.{true}
 use mathlib.Core.List.{List, _++_}
 use Prim.Native.Nat.{ℕ, zero, suc, _^_, _<_}
 use lib.ListN.{length, drop, List·getD-append}
@@ -15,6 +15,7 @@ use Rattle.table.specs.Refusals.{table-refusal}
 use Rattle.table.proofs.Refusals.{table-accepted}
 use Rattle.lookup.specs.Case.{Q}
 use Rattle.lookup.specs.Entry.{value-of}
+use Rattle.lookup.specs.Methods.{known}
 use Rattle.lookup.specs.Call.{log-of, log-length}
 use Rattle.lookup.specs.Refusals.{scratch-checks, log-checks, logged-refusal}
 use Rattle.lookup.specs.Promises.{Log-long}
@@ -30,9 +31,9 @@ use Rattle.secrecy.proofs.Hiding.{hiding}
 use Rattle.secrecy.proofs.Promises.{tells-nothing}
 
 -- entries in front are read as they are
-front : (new old : List ℕ) (i : ℕ) → i < length new → at (in-front new old) i ≡ at new i
+pub in-front-at : (new old : List ℕ) (i : ℕ) → i < length new → at (in-front new old) i ≡ at new i
 unfolding at in-front
-front new old i h = List·getD-append new (drop (length new) old) 0 i h
+in-front-at new old i h = List·getD-append new (drop (length new) old) 0 i h
 
 pub lent-log-counted : Lent-log-counted
 unfolding Lent-log-counted Log-long logged-log left chosen-case
@@ -40,15 +41,15 @@ lent-log-counted table scratch lent method n m x choice i e h =
     let c = chosen-case single method n m x choice in
     let whole = plain-case c table scratch (logged-plain c table scratch lent e .0) .0 in
     let long : length (log-of c table) ≡ log-length method n = log-long table c whole .0 in
-    rw e (front (log-of c table) lent i (rw long h))
+    rw e (in-front-at (log-of c table) lent i (rw long h))
 
 -- a choice within its widths makes a case that is accepted
-choice-taken : (table : List ℕ) (method n m x : ℕ) (choice : ℕ → ℕ) → table-refusal n m table ≡ 0 → (method ≡ 2) ⊎ (method ≡ 3) → x < 2 ^ n
+pub choice-taken : (table : List ℕ) (method n m x : ℕ) (choice : ℕ → ℕ) → table-refusal n m table ≡ 0 → known method ≡ true → x < 2 ^ n
     → Within (mask-widths method n m) choice → Taken (chosen-case single method n m x choice) table
 unfolding chosen-case mask-widths Q
 choice-taken table method n m x choice e k h inside =
-    let drawn = of-each method hiding (known-2-or-3 k) .drawn n m choice inside in (
-      known-2-or-3 k,
+    let drawn = of-each method hiding k .drawn n m choice inside in (
+      k,
       record {
         table = table-accepted n m table e;
         x0 = below n (below n h (drawn .r1)) (drawn .r2);
@@ -67,7 +68,7 @@ choices-accepted table scratch lent method n m x choice e k h inside room clean 
     let c = chosen-case single method n m x choice in
     logged-by-plain c table scratch lent (log-not-refused c lent long)
     ∙ plain-by-case c table scratch (record { room = room; clean = clean })
-    ∙ not-refused c table (choice-taken table method n m x choice e k h inside)
+    ∙ not-refused c table (choice-taken table method n m x choice e (known-2-or-3 k) h inside)
 
 pub call-tells-nothing : Call-tells-nothing
 unfolding Call-tells-nothing Lent-log-counted Tells-nothing call-count count shows value-at chosen-case scratch-checks log-checks logged-log
@@ -84,7 +85,7 @@ call-tells-nothing table scratch lent method n m x y i j u v e k hx hy hi hj = b
         → logged-refusal (chosen-case single method n m z c) table scratch lent ≡ rest
     number z hz c inside =
         let one = chosen-case single method n m z c in
-        logged-by-rest one table scratch lent (not-refused one table (choice-taken table method n m z c e k hz inside))
+        logged-by-rest one table scratch lent (not-refused one table (choice-taken table method n m z c e (known-2-or-3 k) hz inside))
 
     -- accepted: the log is the counted one
     at-position : rest ≡ 0 → (z : ℕ) → z < 2 ^ n → (c : ℕ → ℕ) → Within (mask-widths method n m) c → (p : ℕ) → p < log-length method n

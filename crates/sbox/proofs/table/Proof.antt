@@ -1,7 +1,7 @@
 -- `sbox::table` meets its contract: the table that the rule makes is computed, and each entry compared.
 use mathlib.Core.Path.{refl}
 use Rattle.bits.specs.Xor.{_⊕_}
-use Rattle.sbox.specs.Tabulate.{tabulate}
+use Rattle.table.specs.Tabulate.{tabulate}
 use Rattle.sbox.specs.Field.{xtime, times-bits, times, square, inverse}
 use Rattle.sbox.specs.Sbox.{bit, constant, affine-bit, from-bits, affine, sbox}
 use Rattle.sbox.proofs.table.Statement.{statement}
