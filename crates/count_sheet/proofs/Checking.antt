@@ -3,7 +3,6 @@ use mathlib.Core.Path.{_≡_, refl, sym, _∙_}
 use mathlib.Core.Bool.{Bool, true, false, not}
 use mathlib.Core.List.{List, [], _∷_, _++_}
 use Prim.Native.Nat.{ℕ, max, _*_, _^_, _≤_, _<_}
-use native.Mathlib.Nat.{le-trans}
 use native.Mathlib.Omega.{arith}
 use borrow.Author.Tests.{lt-ltb, le-ltb, le-leb, lt-leb, ltb-false, leb-false, not-false}
 use lib.Dec.{leb}
@@ -64,9 +63,6 @@ module _ (p : ProbePair) (table : List ℕ) where
 
   pub input-most : (k : ℕ) → k ≡ first-of (pair-checks p table) → k ≡ 0 → p .n ≤ 8
   input-most k e z = table-accepted (p .n) (p .m) table (pair-taken (sym e ∙ z) .taken) .input-most
-
-  pub output-most : (k : ℕ) → k ≡ first-of (pair-checks p table) → k ≡ 0 → p .m ≤ 8
-  output-most k e z = le-trans (table-accepted (p .n) (p .m) table (pair-taken (sym e ∙ z) .taken) .output-most) (input-most k e z)
 
 -- 13 and 14
 module _ (p : ProbePair) (scratch log : List ℕ) (bytes : ℕ) (b : bytes ≡ scratch-length (p .method) (p .n)) where

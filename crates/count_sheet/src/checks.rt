@@ -36,7 +36,7 @@ fn refused_pair(pair: ProbePair, table: &[u8]) -> u32
     0
 }
 
-// 13 and 14. The widths have been checked, so it has a `requires`, and so has the next.
+// 13 and 14. The width has been checked, so it has a `requires`.
 fn refused_buffers(pair: ProbePair, scratch: &[u8], log: &[u16]) -> u32
     requires { ⌜ pair .n ≤ 8 ⌝ }
     ensures { λ r. ⌜ r ≡ first-of (buffer-checks pair (now (scratch .entry)) (now (log .entry))) ⌝ }
@@ -52,8 +52,6 @@ fn refused_buffers(pair: ProbePair, scratch: &[u8], log: &[u16]) -> u32
 
 // 15 to 17
 fn refused_sheet(pair: ProbePair, sheet: &[u32]) -> u32
-    requires { ⌜ pair .n ≤ 8 ⌝ }
-    requires { ⌜ pair .m ≤ 8 ⌝ }
     ensures { λ r. ⌜ r ≡ first-of (sheet-checks pair (now (sheet .entry))) ⌝ }
 {
     if 3 < pair.n {

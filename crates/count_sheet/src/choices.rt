@@ -79,10 +79,17 @@ fn place_of(pair: ProbePair, log: &[u16]) -> usize
     requires { ⌜ pair .second < length (now log) ⌝ }
     ensures { λ r. ⌜ r ≡ Runs·place-of pair (now (log .entry)) ⌝ }
 {
-    let side = bits::power(crate::larger(pair.n, pair.m)) as usize;
-    let first = log_entries::value(log[pair.first as usize]) as usize;
-    let second = log_entries::value(log[pair.second as usize]) as usize;
-    first * side + second
+    let side = bits::power(crate::larger(pair.n, pair.m));
+    let first = log_entries::value(log[pair.first as usize]);
+    let second = log_entries::value(log[pair.second as usize]);
+    entry_of(first, side, second)
+}
+
+// The entry of a row and a column. Products of 32-bit numbers fit 64 bits.
+fn entry_of(row: u32, side: u32, column: u32) -> usize
+    ensures { λ r. ⌜ r ≡ row * side + column ⌝ }
+{
+    row as usize * side as usize + column as usize
 }
 
 // The case of a choice: x0 is the secret joined with r1 and r2.
