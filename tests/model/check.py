@@ -3,6 +3,7 @@
 import sys
 
 import check_calls
+import check_counts
 import check_frame
 import check_print
 import check_sbox
@@ -12,6 +13,7 @@ import check_small
 # For each module, what holds it to them. The quick parts come first: a wrong model is then noticed sooner.
 PARTS = {
     "model": (check_small, check_print, check_calls),
+    "counts": (check_counts,),
     "sbox": (check_sbox,),
     "screening": (check_screening,),
     "frame": (check_frame,),

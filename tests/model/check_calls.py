@@ -240,6 +240,7 @@ def counts():
     for method in (2, 3):
         yield f"secrets of method {method}", {case.x0 ^ case.r1 ^ case.r2 for case in model.choices(method, 2, 1, 2)}, {2}
         yield f"cases of method {method}", {case[:3] for case in model.choices(method, 2, 1, 2)}, {(method, 2, 1)}
+    yield "a = 0 and x0", model.pair_counts([1, 0], 2, 1, 1, 0, 8, 0), {(0, 0): 16, (0, 1): 16}
     yield "one position twice", model.pair_counts([1, 0], 2, 1, 1, 0, 1, 1), {(0, 0): 16, (1, 1): 16}
     for secret in range(4):
         yield f"values above 1 at {secret}", model.pair_counts(TABLE_A, 2, 2, 2, secret, 0, 33)[3, 2], 64

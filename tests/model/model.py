@@ -4,7 +4,7 @@
 # Numbers are integers from 0 on; a table, a scratch buffer and rows are lists of bytes; a log is a list of 16-bit entries.
 import itertools
 import re
-from collections import namedtuple
+from collections import Counter, namedtuple
 
 # The numbers of a logged or plain call, in the order of the bench print's case line.
 Case = namedtuple("Case", "method n m x0 r1 r2 s1 s2 r3 b")
@@ -207,14 +207,17 @@ def choices(method, n, m, secret):
         yield Case(method, n, m, secret ^ r1 ^ r2, r1, r2, s1, s2, r3, b)
 
 
-# How many choices leave each pair of values at positions i and j. The table need not be one that a call accepts.
+# The values that each position of the log shows, one for each choice of masks. The table need not be one that a call accepts.
+def shown_values(table, method, n, m, secret):
+    logs = (run(case, table, [0] * 2**n)[2] for case in choices(method, n, m, secret))
+    values = (bytes(value for _, value in log) for log in logs)
+    return [bytes(column) for column in zip(*values)]
+
+
+# How many choices leave each pair of values at positions i and j.
 def pair_counts(table, method, n, m, secret, i, j):
-    counts = {}
-    for case in choices(method, n, m, secret):
-        _, _, log = run(case, table, [0] * 2**n)
-        pair = log[i][1], log[j][1]
-        counts[pair] = counts.get(pair, 0) + 1
-    return counts
+    shown = shown_values(table, method, n, m, secret)
+    return Counter(zip(shown[i], shown[j]))
 
 
 # The bench print.
@@ -233,25 +236,25 @@ def line_numbers(line, count):
     return numbers if max(numbers) <= 255 else None
 
 
-# The case and the table that a program input holds, or None where it is of another form.
-def read_sheet(text):
+# The numbers of an input's first line, named as the given type names them, and its table; None where the input has another form.
+def read_sheet(text, form):
     first, *others = text.split(b"\n")
     if not others or others.pop() != b"" or len(others) > 256:
         return None
-    numbers = line_numbers(first, 10)
+    numbers = line_numbers(first, len(form._fields))
     entries = [line_numbers(line, 1) for line in others]
     if numbers is None or None in entries:
         return None
-    return Case(*numbers), [entry for [entry] in entries]
+    return form(*numbers), [entry for [entry] in entries]
 
 
-def print_line(*numbers):
-    return b"".join(b"%4d" % number for number in numbers) + b"\n"
+def print_line(*numbers, columns=4):
+    return b"".join(b"%*d" % (columns, number) for number in numbers) + b"\n"
 
 
 # What the program writes for an input.
 def bench(text):
-    sheet = read_sheet(text)
+    sheet = read_sheet(text, Case)
     if sheet is None:
         return print_line(1)
     case, table = sheet

@@ -5,10 +5,12 @@ import sys
 from pathlib import Path
 
 import check
+import counts
 import frame
 import model
 import sbox
 import screening
+from count_mutants import COUNTS
 from edits import edited
 from frame_mutants import FRAME
 from screening_mutants import SCREENING
@@ -236,7 +238,12 @@ MODEL = {
         ("secret ^ r1 ^ r2", "secret ^ r1"),
         ("s1, s2, r3, b)", "s2, s2, r3, b)"),
     ],
-    "pair_counts": [("log[j][1]", "log[i][1]"), ("log[i][1]", "log[i][0]"), (", 0) + 1", ", 1) + 1")],
+    "shown_values": [("value for _, value", "kind for kind, _"), ("secret))", "0))"), ("zip(*values)", "list(zip(*values))[::-1]")],
+    "pair_counts": [
+        ("shown[j]", "shown[i]"),
+        ("shown[i], shown[j]", "shown[j], shown[i]"),
+        ("zip(shown[i], shown[j])", "set(zip(shown[i], shown[j]))"),
+    ],
     "NUMBER": [("(0|[1-9][0-9]*)", "([0-9]+)"), (" *", "[ +]*"), (" *", r"\s*"), ("[1-9][0-9]*", "[1-9][0-9]?")],
     "line_numbers": [("!=", "<"), ("!=", ">"), ("all(fields)", "any(fields)"), ("255", "256"), ("255", "254"), ("at + 4", "at + 3")],
     "read_sheet": [
@@ -246,9 +253,9 @@ MODEL = {
         ("> 256", "> 255"),
         ("numbers is None or ", ""),
         (" or None in entries", ""),
-        ("10", "9"),
+        ("len(form._fields)", "9"),
     ],
-    "print_line": [("%4d", "%3d"), ("%4d", "%-4d"), (r'+ b"\n"', "")],
+    "print_line": [("columns=4", "columns=3"), ("%*d", "%-*d"), (r'+ b"\n"', "")],
     "bench": [
         ("print_line(1)", "print_line(2)"),
         ("print_line(refusal)", "print_line(refusal, 0, 0)"),
@@ -306,7 +313,7 @@ def complaints(module, edits):
 
 def main():
     found = []
-    for module, edits in ((model, MODEL), (sbox, SBOX), (screening, SCREENING), (frame, FRAME)):
+    for module, edits in ((model, MODEL), (counts, COUNTS), (sbox, SBOX), (screening, SCREENING), (frame, FRAME)):
         found += [f"{module.__name__}: {complaint}" for complaint in complaints(module, edits)]
         print(f"{sum(map(len, edits.values()))} edits of {module.__name__}.py")
     for complaint in found:

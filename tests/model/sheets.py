@@ -41,19 +41,20 @@ BAD_FIELDS = [
 ]
 
 
-def fields_of(text):
-    return [at for at in range(0, 40, 4)] + [at for at in range(41, len(text) - 4, 5)]
+def fields_of(text, first_end):
+    return [at for at in range(0, first_end, 4)] + [at for at in range(first_end + 1, len(text) - 4, 5)]
 
 
 # Every kind of damage, at the first field, one in the middle and the last.
 def damaged(text):
-    places = fields_of(text)
+    first_end = text.index(b"\n")
+    places = fields_of(text, first_end)
     for at in (places[0], places[len(places) // 2], places[-1]):
         for bad in BAD_FIELDS:
             yield text[:at] + bad + text[at + 4 :]
         yield text[:at] + text[at + 1 :]
         yield text[:at] + b" " + text[at:]
-    for end in (40, 45, len(text) - 1):
+    for end in (first_end, first_end + 5, len(text) - 1):
         for bad in (b" ", b"\r", b"0", b"\n\n", b"\r\n", b""):
             yield text[:end] + bad + text[end + 1 :]
     yield text + b"\n"
@@ -61,8 +62,8 @@ def damaged(text):
     yield text + b"   0"
     yield text + b"\x00"
     yield text[1:]
-    yield text[:41]
-    yield text[:40]
+    yield text[: first_end + 1]
+    yield text[:first_end]
     yield b"\n" + text
 
 

@@ -1,0 +1,183 @@
+# Holds the model's count sheet and its print to what is required of them (docs/REFERENCE.md). Each group yields a name, what the model says
+# and what it should say.
+import counts
+import model
+from count_sheets import P12, P12_PAIR, probe_sheet
+from counts import ProbePair
+from document import KINDS, TABLE_A
+
+TOP = 2**32 - 1
+# Balanced tables of every pair of widths.
+TABLES = {
+    (1, 1): [1, 0],
+    (2, 1): [0, 1, 1, 0],
+    (2, 2): TABLE_A,
+    (3, 1): [0, 1, 1, 0, 1, 0, 0, 1],
+    (3, 2): [3, 0, 1, 1, 2, 0, 3, 2],
+    (3, 3): [6, 1, 0, 7, 3, 5, 2, 4],
+}
+
+
+def log_length(method, n):
+    head, turn, end = KINDS[method]
+    return len(head) + len(turn) * 2**n + len(end)
+
+
+# The sheet of an accepted pair, with buffers that just suffice.
+def sheet_of(pair, table=None):
+    lent = [9] * 2**pair.n, [9] * log_length(pair.method, pair.n), [9] * 4**pair.n
+    refusal, _, _, sheet = counts.count_sheet(pair, table or TABLES[pair.n, pair.m], *lent)
+    return sheet if refusal == 0 else refusal
+
+
+# P12 of the bench sheet, and counts that can be worked out by hand: of a mask, of a mask and another one, of a loop number, of b and 1 - b.
+def figures():
+    for secret in (0, 1):
+        yield f"P12 at {secret}", sheet_of(P12_PAIR._replace(secret=secret)), [8, 8, 8, 8]
+    yield "r1 twice", sheet_of(P12_PAIR._replace(first=1, second=1)), [16, 0, 0, 16]
+    yield "a = 0 and x0", sheet_of(P12_PAIR._replace(first=8, second=0)), [16, 16, 0, 0]
+    yield "x0 and a = 0", sheet_of(P12_PAIR._replace(first=0, second=8)), [16, 0, 16, 0]
+    yield "b and 1 - b", sheet_of(ProbePair(3, 1, 1, 1, 5, 7)), [0, 32, 32, 0]
+    yield "r1 and s1", sheet_of(ProbePair(2, 2, 1, 3, 1, 3)), [32, 32, 0, 0] * 4
+    yield "s1 and r1", sheet_of(ProbePair(2, 2, 1, 3, 3, 1)), [32] * 8 + [0] * 8
+    yield "x0 and x0 + 3", sheet_of(ProbePair(2, 2, 2, 1, 0, 28)), [256 * (v == 3 - u) for u in range(4) for v in range(4)]
+    yield "x0 and S[x0]", sheet_of(ProbePair(2, 2, 2, 0, 0, 11)), [256 * (v == TABLE_A[u]) for u in range(4) for v in range(4)]
+    yield "a = 7 and x0", sheet_of(ProbePair(2, 3, 1, 6, 50, 0)), [0] * 56 + [256] * 8
+    yield "a = 7 and b", sheet_of(ProbePair(3, 3, 2, 6, 71, 80)), [0] * 56 + [2**13] * 2 + [0] * 6
+    yield "a = 7 twice", sheet_of(ProbePair(3, 3, 3, 0, 71, 71)), [0] * 63 + [2**16]
+
+
+# Pairs of positions that the laws are tried at: first and last ones, one twice, and some between.
+def positions(method, n):
+    last = log_length(method, n) - 1
+    return [(0, last), (last, 0), (last, last), (13, last), (last - 3, 12), (9, 16), (7, 7)]
+
+
+def sums():
+    for n, m in TABLES:
+        for method in (2, 3):
+            for first, second in positions(method, n):
+                sheet = sheet_of(ProbePair(method, n, m, 0, first, second))
+                yield f"sum of {method} {n} {m} {first} {second}", (len(sheet), sum(sheet)), (4**n, (method - 1) * 2 ** (3 * n + 2 * m))
+
+
+# Every pair of positions at n = 1, and some at the other widths.
+def equal_sheets():
+    for n, m in TABLES:
+        for method in (2, 3):
+            every = range(log_length(method, n))
+            pairs = [(i, j) for i in every for j in every] if n == 1 else positions(method, n)
+            for first, second in pairs:
+                pair = ProbePair(method, n, m, 0, first, second)
+                for secret in range(1, 2**n) if n < 3 else (7,):
+                    yield f"{pair} at {secret}", sheet_of(pair._replace(secret=secret)), sheet_of(pair)
+
+
+# The same pairs of values counted one by one, in a table of other entries than the runs above.
+def single_counts():
+    table = [1, 3, 0, 2]
+    for first, second in ((13, 33), (33, 13), (11, 17), (0, 29)):
+        pairs = model.pair_counts(table, 2, 2, 2, 2, first, second)
+        sheet = sheet_of(ProbePair(2, 2, 2, 2, first, second), table)
+        for u in range(4):
+            for v in range(4):
+                yield f"count of {u} and {v} at {first} and {second}", sheet[u * 4 + v], pairs[u, v]
+
+
+# A count's arguments by their names: the six numbers, the table, scratch and sheet, and the length of the log. All lent is dirty.
+def arguments(method, n, m, table, **others):
+    scratch, sheet = [7] * (2**n + 1), list(range(1, 4**n + 2))
+    numbers = dict(method=method, n=n, m=m, secret=2**n - 1, first=0, second=log_length(method, n) - 1)
+    return {**numbers, "table": table, "scratch": scratch, "log": log_length(method, n), "sheet": sheet, **others}
+
+
+def called(call):
+    *numbers, table, scratch, log_entries, sheet = call.values()
+    return counts.count_sheet(ProbePair(*numbers), table, scratch, list(range(1, log_entries + 1)), sheet)
+
+
+# Faults of such a call in the order of the checks: the refusal, what is faulty and what stands there.
+def faults(method, n, m, table):
+    length = log_length(method, n)
+    return [
+        *((2, "method", value) for value in (0, 1, 4, 258, 2**16 + 3, TOP)),
+        *((3, "n", value) for value in (0, 9, 258, 2**16 + 2, TOP)),
+        *((4, "m", value) for value in (0, n + 1, 9, 257, 2**16 + 1, TOP)),
+        *((5, "table", value) for value in ([], table[:-1], table + [0])),
+        *((6, "table", value) for value in ([2**m, *table[1:]], [*table[:-1], 255])),
+        *((7, "table", value) for value in ([1 - table[0], *table[1:]], [0] * 2**n)),
+        *((10, "secret", value) for value in (2**n, 256, 2**16, TOP)),
+        *((13, "scratch", value) for value in ([], [0] * (2**n - 1), [7] * (2**n - 1))),
+        *((14, "log", value) for value in (0, length - 1)),
+        *((16, name, value) for name in ("first", "second") for value in (length, 256, 2**16, TOP)),
+        *((17, "sheet", value) for value in ([], [7] * (4**n - 1))),
+    ]
+
+
+def refused(call, refusal):
+    wanted = refusal, call["scratch"], list(range(1, call["log"] + 1)), call["sheet"]
+    yield f"{call} refused", called(call), wanted
+
+
+# Each fault, and any two in different places. Where n is 4 the count is refused with 15: behind 14, before 16 and 17.
+def refusals():
+    for method in (2, 3):
+        for n, m, table in ((2, 1, [0, 1, 1, 0]), (4, 1, [0, 1] * 8)):
+            wide = 15 if n > 3 else TOP
+            known = faults(method, n, m, table)
+            for at, (refusal, place, value) in enumerate(known):
+                call = {**arguments(method, n, m, table), place: value}
+                yield from refused(call, min(refusal, wide))
+                for _, second, value2 in known[at:]:
+                    if second != place:
+                        yield from refused({**call, second: value2}, min(refusal, wide))
+    for n in range(4, 9):
+        for m in (1, 3, 4, n):
+            yield from refused(arguments(3, n, m, list(range(2**m)) * 2 ** (n - m)), 15)
+
+
+# What stands just inside is accepted, whatever the lent buffers hold, and what is behind the parts that are written stays.
+def accepted():
+    for method in (2, 3):
+        for (n, m), table in TABLES.items():
+            length = log_length(method, n)
+            for changed in (
+                {},
+                {"first": length - 1, "second": 0, "secret": 0},
+                {"scratch": [255] * 2**n, "sheet": [TOP] * 4**n},
+                {"scratch": [0] * 2**n + [1, 2, 3], "sheet": [0] * 4**n + [TOP, 1, 2]},
+                {"log": length + 3},
+            ):
+                call = arguments(method, n, m, table, **changed)
+                refusal, scratch, log, sheet = called(call)
+                tails = call["scratch"][2**n :], list(range(length + 1, call["log"] + 1)), call["sheet"][4**n :]
+                name = f"{method} {n} {m} {changed}"
+                yield f"{name} accepted", (refusal, sum(sheet[: 4**n])), (0, (method - 1) * 2 ** (3 * n + 2 * m))
+                yield f"{name}, scratch", scratch, [0] * 2**n + tails[0]
+                yield f"{name}, log", log, [0] * length + tails[1]
+                yield f"{name}, sheet behind the counts", sheet[4**n :], tails[2]
+
+
+# The print's form: a line of 2^k counts for each u, a refusal, or 1.
+def prints():
+    yield "P12 as input", P12, b"   2   1   1   0   0  21\n   1\n   0\n"
+    yield "P12 printed", counts.counts(P12), b"       8       8\n       8       8\n"
+    for pair, table in ((ProbePair(2, 2, 1, 3, 1, 3), [0, 1, 1, 0]), (ProbePair(3, 3, 3, 0, 71, 71), TABLES[3, 3])):
+        sheet, size = sheet_of(pair, table), 2**pair.n
+        lines = [b"".join(b"%8d" % count for count in sheet[at : at + size]) for at in range(0, size * size, size)]
+        yield f"{pair} printed", counts.counts(probe_sheet(pair, table)).split(b"\n"), [*lines, b""]
+    yield "a wide count", counts.counts(probe_sheet(pair, table))[-9:], b"   65536\n"
+    yield "nothing", counts.counts(b""), b"   1\n"
+    yield "a case of ten numbers", counts.counts(b"   2   1   1   0   1   0   0   1   1   0\n   1\n   0\n"), b"   1\n"
+    yield "five numbers", counts.counts(b"   2   1   1   0   0\n   1\n   0\n"), b"   1\n"
+    yield "no table", counts.counts(probe_sheet(P12_PAIR, [])), b"   5\n"
+    yield "method 4", counts.counts(probe_sheet(P12_PAIR._replace(method=4), [])), b"   2\n"
+    yield "the refused table", counts.counts(probe_sheet(ProbePair(2, 2, 1, 0, 13, 33), [0, 0, 0, 1])), b"   7\n"
+    yield "a position", counts.counts(probe_sheet(P12_PAIR._replace(second=22), [1, 0])), b"  16\n"
+    for method in (2, 3):
+        for n in range(4, 9):
+            yield f"method {method} at n = {n}", counts.counts(probe_sheet(ProbePair(method, n, n, 0, 0, 0), range(2**n))), b"  15\n"
+
+
+# The quick ones come first.
+GROUPS = (figures, prints, refusals, accepted, single_counts, sums, equal_sheets)

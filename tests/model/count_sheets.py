@@ -1,0 +1,61 @@
+# Inputs for the test of the count sheet's print, legal and damaged. What each must print is the model's to say.
+import random
+
+from counts import ProbePair
+from document import TABLE_A
+from model import log_length
+from sheets import balanced_table, damaged, sheet as probe_sheet
+
+P12_PAIR = ProbePair(method=2, n=1, m=1, secret=0, first=0, second=21)
+P12 = probe_sheet(P12_PAIR, [1, 0])
+PAIR = ProbePair(method=3, n=2, m=2, secret=3, first=16, second=45)
+
+
+# A pair of positions of an accepted count, and its table.
+def accepted_sheet(chance, method, n, m):
+    first, second = (chance.randrange(log_length(method, n)) for _ in range(2))
+    return probe_sheet(ProbePair(method, n, m, chance.randrange(2**n), first, second), balanced_table(chance, n, m))
+
+
+# Inputs whose numbers meet each refusal, with neighbours that do not.
+def refused(chance):
+    changes = {
+        "method": (0, 1, 2, 4, 5, 255),
+        "n": (0, 1, 3, 8, 9, 255),
+        "m": (0, 1, 3, 8, 255),
+        "secret": (0, 4, 255),
+        "first": (0, 45, 46, 255),
+        "second": (0, 45, 46, 255),
+    }
+    for name, values in changes.items():
+        yield from (probe_sheet(PAIR._replace(**{name: value}), TABLE_A) for value in values)
+    for length in (0, 1, 3, 5, 255, 256):
+        yield probe_sheet(PAIR, (TABLE_A * 64)[:length])
+    for entry in (3, 4, 255):
+        yield probe_sheet(PAIR, [entry, 0, 2, 1])
+    yield probe_sheet(PAIR._replace(m=1), [0, 0, 0, 1])
+    yield probe_sheet(PAIR._replace(method=4, n=9), TABLE_A)
+    yield probe_sheet(PAIR._replace(secret=4, first=46), TABLE_A)
+
+
+# n above 3: before a position that is too large, behind a secret that is.
+def too_wide(chance):
+    for n in range(4, 9):
+        for method, m, secret, first in ((2, 1, 0, 0), (3, n, 2**n - 1, 255), (2, 3, 2**n % 256, 9), (3, 4, 2**n - 1, 9)):
+            yield probe_sheet(ProbePair(method, n, m, secret, first, 9), balanced_table(chance, n, m))
+
+
+def all_texts():
+    chance = random.Random(11)
+    yield from (P12, probe_sheet(P12_PAIR._replace(secret=1), [1, 0]), probe_sheet(PAIR, TABLE_A), b"", probe_sheet(PAIR, []))
+    for method in (2, 3):
+        for n in range(1, 4):
+            for m in range(1, n + 1):
+                yield from (accepted_sheet(chance, method, n, m) for _ in range(2))
+    yield probe_sheet(ProbePair(3, 3, 3, 1, 71, 71), balanced_table(chance, 3, 3))
+    yield from refused(chance)
+    yield from too_wide(chance)
+    yield from damaged(P12)
+    yield from damaged(probe_sheet(PAIR, TABLE_A))
+    full = probe_sheet(PAIR._replace(n=8), balanced_table(chance, 8, 2))
+    yield from (full, full + b"   0\n", full[:-1], full + full)
