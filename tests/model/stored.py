@@ -5,6 +5,9 @@ import sys
 import tempfile
 from pathlib import Path
 
+import count_cases
+import count_sheets
+import counts
 import document
 import frame_records
 import logged_cases
@@ -24,11 +27,10 @@ def program_files(name, module):
     return {f"{name}/data/cases": b"".join(map(module.record, cases)), f"{name}/stdout": "".join(lines).encode()}
 
 
-# A record is a sheet's length as two little-endian bytes, and its bytes.
-def sheet_files():
-    texts = list(sheets.all_sheets())
+# The inputs of a print, and what it makes of them. A record is an input's length as two little-endian bytes, and its bytes.
+def print_files(name, texts, printed):
     records = [struct.pack("<H", len(text)) + text for text in texts]
-    return {"test_case_sheets/data/cases": b"".join(records), "test_case_sheets/stdout": b"".join(map(model.bench, texts))}
+    return {f"{name}/data/cases": b"".join(records), f"{name}/stdout": b"".join(map(printed, texts))}
 
 
 # What each file below crates/ must hold.
@@ -38,9 +40,13 @@ def made_files():
         **program_files("test_logged_calls", logged_cases),
         **program_files("test_screening", screening_cases),
         **program_files("test_frames", frame_records),
-        **sheet_files(),
+        **program_files("test_count_sheets", count_cases),
+        **print_files("test_case_sheets", list(sheets.all_sheets()), model.bench),
+        **print_files("test_count_prints", list(count_sheets.all_texts()), counts.counts),
         "bench/stdin": document.SAMPLE_INPUT,
         "bench/stdout": model.bench(document.SAMPLE_INPUT),
+        "counts/stdin": count_sheets.P12,
+        "counts/stdout": counts.counts(count_sheets.P12),
         "sbox_print/stdout": sbox.printed(),
     }
 

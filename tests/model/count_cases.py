@@ -1,0 +1,182 @@
+# The cases of the count sheet for the program test_count_sheets, and what the model says of each.
+# A case is a record of 304 bytes: the six numbers of a pair of probes as little-endian u32, then as u16 the lengths of the table, the
+# scratch, the log and the sheet that are lent, and from byte 32 the table. All three buffers are lent filled, so that what a call clears,
+# what it overwrites and what it leaves can all be seen. The answers are one line a record: the refusal, then the lent scratch and log
+# after the call, whole where n is at most 1, and as a checksum each where it is larger, and the lent sheet, whole.
+import random
+import struct
+from collections import namedtuple
+
+import counts
+from counts import ProbePair
+from logged_cases import DIRTY_BYTE, FILLED_ENTRY, LONGEST_LOG, LONGEST_SCRATCH, TOP, checksum
+from model import log_length
+from sheets import balanced_table
+
+# What the program fills the sheet with, and the most of it that it can lend.
+FILLED_COUNT, LONGEST_SHEET = 4042322160, 100
+# Each comes into the range of every number of a pair when it is cut to 8 or 16 bits, or is the largest of its type.
+WIDE_NUMBERS = (256, 257, 258, 2**16, 2**16 + 1, 2**16 + 2, TOP)
+
+# A call: its numbers, its table, and the lengths of scratch, log and sheet.
+Call = namedtuple("Call", "pair table scratch log sheet")
+
+chance = random.Random()
+
+
+# A call with buffers that just suffice. Where n is above 3 no sheet is looked at, and a short one is lent.
+def with_buffers(pair, table):
+    return Call(pair, table, 2**pair.n, log_length(pair.method, pair.n), 4**pair.n if pair.n <= 3 else 5)
+
+
+def accepted(method, n, m):
+    positions = (chance.randrange(log_length(method, n)) for _ in range(2))
+    return with_buffers(ProbePair(method, n, m, chance.randrange(2**n), *positions), balanced_table(chance, n, m))
+
+
+def with_numbers(call, **numbers):
+    return call._replace(pair=call.pair._replace(**numbers))
+
+
+# The same call with buffers that are longer than it needs.
+def roomier(call):
+    scratch, log, sheet = (length + chance.randint(1, 5) for length in call[2:])
+    return call._replace(scratch=scratch, log=log, sheet=sheet)
+
+
+def with_entry(call, place, entry):
+    table = list(call.table)
+    table[place] = entry
+    return call._replace(table=table)
+
+
+# P12 of the bench sheet, and the pair that tells a secret of the table 0, 0, 0, 1, which is refused.
+def bench_sheet():
+    for secret in (0, 1):
+        p12 = with_buffers(ProbePair(2, 1, 1, secret, 0, 21), [1, 0])
+        yield from (p12, roomier(p12))
+    for secret in (0, 3):
+        for table in ([0, 1, 1, 0], [0, 0, 0, 1]):
+            yield with_buffers(ProbePair(2, 2, 1, secret, 13, 33), table)
+
+
+# Both methods at every pair of widths: first and last positions, one twice, and others; two secrets of the same table.
+def every_width():
+    for method in (2, 3):
+        for n in range(1, 4):
+            for m in range(1, n + 1):
+                call, last = accepted(method, n, m), log_length(method, n) - 1
+                other = call.pair.secret ^ chance.randrange(1, 2**n)
+                between = [tuple(chance.randrange(1, last) for _ in range(2)) for _ in range(3)]
+                for first, second in ((0, last), (last, 0), (last, last), (7, 7), (13, last), *between):
+                    yield roomier(with_numbers(call, first=first, second=second))
+                yield from (with_numbers(call, first=13, second=last, secret=secret) for secret in (call.pair.secret, other))
+
+
+# Every position with another one, at n = 1 and n = 2, and of the first and the last turn at n = 3.
+def every_position():
+    for method, n, m in ((2, 1, 1), (3, 1, 1), (2, 2, 1), (3, 2, 2), (2, 3, 2), (3, 3, 1)):
+        call, length = accepted(method, n, m), log_length(method, n)
+        for first in range(length) if n < 3 else (*range(17), *range(length - 11, length)):
+            yield with_numbers(call, first=first, second=chance.randrange(length))
+
+
+# All secrets of a table.
+def every_secret():
+    for method, n, m in ((2, 2, 2), (3, 2, 1), (2, 3, 1)):
+        call = accepted(method, n, m)
+        yield from (with_numbers(call, secret=secret) for secret in range(2**n))
+
+
+# Numbers just inside and just outside, and wide ones.
+def numbers():
+    for method in (2, 3):
+        for n, m in ((1, 1), (2, 2), (3, 1)):
+            call, length = roomier(accepted(method, n, m)), log_length(method, n)
+            bounds = {
+                "method": (0, 1, 4),
+                "n": (0, n + 1, 9, 33),
+                "m": (0, m, n + 1, 9, 33),
+                "secret": (0, 2**n - 1, 2**n),
+                "first": (0, length - 1, length, length + 1),
+                "second": (0, length - 1, length, length + 1),
+            }
+            for name, values in bounds.items():
+                wide = WIDE_NUMBERS if n == 2 else ()
+                yield from (with_numbers(call, **{name: value}) for value in (*values, *wide))
+
+
+# Lengths one too short or too long, entries that are too large, and tables that are not balanced.
+def tables():
+    for n in range(1, 9):
+        for m in sorted({1, n}):
+            call = accepted(2 + n % 2, n, m)._replace(sheet=5)
+            yield from (call._replace(table=table) for table in ([], call.table[:-1], call.table + [0]))
+            place = chance.randrange(2**n)
+            yield from (with_entry(call, place, entry) for entry in (2**m - 1 - call.table[place], min(2**m, 255), 255))
+
+
+# Each buffer exactly long enough, one too short, empty, and longer; at n = 3 as long as the program can lend.
+def buffers():
+    for method in (2, 3):
+        for n in range(1, 4):
+            call = accepted(method, n, chance.randint(1, n))
+            for name in ("scratch", "log", "sheet"):
+                needed = getattr(call, name)
+                yield from (call._replace(**{name: length}) for length in (0, needed - 1, needed, needed + 1))
+            yield from (call._replace(scratch=0, log=0, sheet=0), call._replace(sheet=2**n))
+        yield call._replace(scratch=LONGEST_SCRATCH, log=LONGEST_LOG, sheet=LONGEST_SHEET)
+
+
+# n above 3, with buffers that suffice but for the sheet.
+def too_wide():
+    for n in range(4, 9):
+        for m in range(1, n + 1):
+            call = accepted(2 + (n + m) % 2, n, m)
+            yield from (call, call._replace(sheet=0))
+            yield from (call._replace(scratch=call.scratch - 1), call._replace(log=call.log - 1))
+        yield from (with_numbers(call, secret=2**n), with_numbers(call, second=call.log), call._replace(table=call.table[1:]))
+
+
+# A fault alone, which is one that is made twice, and two faults together, also where n is above 3: the number that is checked first is
+# returned.
+def two_faults():
+    faults = (
+        lambda call: with_numbers(call, method=chance.choice((0, 1, 4))),
+        lambda call: with_numbers(call, n=chance.choice((0, 9))),
+        lambda call: with_numbers(call, m=chance.choice((0, 5))),
+        lambda call: call._replace(table=call.table + [0]),
+        lambda call: with_entry(call, 0, 4),
+        lambda call: with_entry(call, 1, (call.table[1] + 1) % 4),
+        lambda call: with_numbers(call, secret=chance.choice((16, 256))),
+        lambda call: call._replace(scratch=call.scratch - 1),
+        lambda call: call._replace(log=call.log - 1),
+        lambda call: with_numbers(call, **{chance.choice(("first", "second")): 154}),
+        lambda call: call._replace(sheet=call.sheet - 1),
+    )
+    for n in (2, 4):
+        for first, fault in enumerate(faults):
+            for other in faults[first:]:
+                yield other(fault(accepted(chance.choice((2, 3)), n, 2)))
+
+
+def record(call):
+    return struct.pack("<6I4H272s", *call.pair, len(call.table), call.scratch, call.log, call.sheet, bytes(call.table))
+
+
+def answer(call):
+    lent = [DIRTY_BYTE] * call.scratch, [FILLED_ENTRY] * call.log, [FILLED_COUNT] * call.sheet
+    refusal, scratch, log, sheet = counts.count_sheet(call.pair, call.table, *lent)
+    if call.pair.n <= 1:
+        return [refusal, *scratch, *log, *sheet]
+    return [refusal, checksum(scratch), checksum(log), *sheet]
+
+
+KINDS = (bench_sheet, every_width, every_position, every_secret, numbers, tables, buffers, too_wide, two_faults)
+
+
+# The same cases in every run.
+def cases():
+    chance.seed(1)
+    for kind in KINDS:
+        yield from kind()
