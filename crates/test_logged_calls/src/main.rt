@@ -6,22 +6,6 @@
 use lookup::Called;
 use lookup::Case;
 
-fn wide(entry: u16) -> u32 {
-    entry as u32
-}
-
-fn print_entries(whole: bool, entries: &[u16]) {
-    let mut checksum = 1;
-    let mut at = 0;
-    while at < entries.len() {
-        checksum = test_records::take(whole, checksum, wide(entries[at]));
-        at += 1;
-    }
-    if !whole {
-        test_records::print_next(checksum);
-    }
-}
-
 fn case(record: &[u8]) -> Case {
     Case {
         method: test_records::number(record, 0),
@@ -42,7 +26,7 @@ fn print_line(called: Called, whole: bool, scratch: &[u8], log: &[u16]) {
     test_records::print_next(called.share);
     test_records::print_next(called.count);
     test_records::print_bytes(whole, scratch);
-    print_entries(whole, log);
+    test_records::print_entries(whole, log);
     test_records::end_line();
 }
 

@@ -104,6 +104,10 @@ pub fn take(whole: bool, checksum: u32, value: u32) -> u32 {
     (checksum % 65521 * 31 + value % 65536) % 65521
 }
 
+fn wide_entry(entry: u16) -> u32 {
+    entry as u32
+}
+
 // Prints a buffer whole, or its checksum.
 pub fn print_bytes(whole: bool, bytes: &[u8]) {
     let mut checksum = 1;
@@ -114,5 +118,27 @@ pub fn print_bytes(whole: bool, bytes: &[u8]) {
     }
     if !whole {
         print_next(checksum);
+    }
+}
+
+// The same of a log.
+pub fn print_entries(whole: bool, entries: &[u16]) {
+    let mut checksum = 1;
+    let mut at = 0;
+    while at < entries.len() {
+        checksum = take(whole, checksum, wide_entry(entries[at]));
+        at += 1;
+    }
+    if !whole {
+        print_next(checksum);
+    }
+}
+
+// Prints numbers, all of them.
+pub fn print_numbers(numbers: &[u32]) {
+    let mut at = 0;
+    while at < numbers.len() {
+        print_next(numbers[at]);
+        at += 1;
     }
 }

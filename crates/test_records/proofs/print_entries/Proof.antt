@@ -1,10 +1,10 @@
--- `test_logged_calls::print_entries` is safe and ends: the place stays within the slice, and the measure is the number of values that
+-- `test_records::print_entries` is safe and ends: the place stays within the slice, and the measure is the number of values that
 -- are left.
 use Prim.Native.Nat.{_-_, _≤_}
 use lib.ListN.{length}
 use borrow.Author.Needs.{needs}
-use Rattle.test_logged_calls.proofs.print_entries.Statement.{statement}
-use Rattle.test_logged_calls.proofs.print_entries.Tie as tie
+use Rattle.test_records.proofs.print_entries.Statement.{statement}
+use Rattle.test_records.proofs.print_entries.Tie as tie
 
 abbrev Inv-loop : tie.InvT-loop
 Inv-loop whole entries checksum₀ at₀ checksum at = at ≤ length entries
