@@ -8,8 +8,9 @@ import struct
 from collections import namedtuple
 
 import counts
+from count_sheets import P12_PAIR
 from counts import ProbePair
-from logged_cases import DIRTY_BYTE, FILLED_ENTRY, LONGEST_LOG, LONGEST_SCRATCH, TOP, checksum
+from logged_cases import DIRTY_BYTE, FILLED_ENTRY, LONGEST_LOG, LONGEST_SCRATCH, TOP, checksum, with_entry
 from model import log_length
 from sheets import balanced_table
 
@@ -44,16 +45,10 @@ def roomier(call):
     return call._replace(scratch=scratch, log=log, sheet=sheet)
 
 
-def with_entry(call, place, entry):
-    table = list(call.table)
-    table[place] = entry
-    return call._replace(table=table)
-
-
 # P12 of the bench sheet, and the pair that tells a secret of the table 0, 0, 0, 1, which is refused.
 def bench_sheet():
     for secret in (0, 1):
-        p12 = with_buffers(ProbePair(2, 1, 1, secret, 0, 21), [1, 0])
+        p12 = with_buffers(P12_PAIR._replace(secret=secret), [1, 0])
         yield from (p12, roomier(p12))
     for secret in (0, 3):
         for table in ([0, 1, 1, 0], [0, 0, 0, 1]):

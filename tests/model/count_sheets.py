@@ -18,7 +18,7 @@ def accepted_sheet(chance, method, n, m):
 
 
 # Inputs whose numbers meet each refusal, with neighbours that do not.
-def refused(chance):
+def refused():
     changes = {
         "method": (0, 1, 2, 4, 5, 255),
         "n": (0, 1, 3, 8, 9, 255),
@@ -53,7 +53,7 @@ def all_texts():
             for m in range(1, n + 1):
                 yield from (accepted_sheet(chance, method, n, m) for _ in range(2))
     yield probe_sheet(ProbePair(3, 3, 3, 1, 71, 71), balanced_table(chance, 3, 3))
-    yield from refused(chance)
+    yield from refused()
     yield from too_wide(chance)
     yield from damaged(P12)
     yield from damaged(probe_sheet(PAIR, TABLE_A))
