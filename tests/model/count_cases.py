@@ -16,7 +16,7 @@ from sheets import balanced_table
 
 # What the program fills the sheet with, and the most of it that it can lend.
 FILLED_COUNT, LONGEST_SHEET = 4042322160, 100
-# Each comes into the range of every number of a pair when it is cut to 8 or 16 bits, or is the largest of its type.
+# Each comes into the range of some number of a pair when it is cut to 8 or 16 bits, or is the largest of its type.
 WIDE_NUMBERS = (256, 257, 258, 2**16, 2**16 + 1, 2**16 + 2, TOP)
 
 # A call: its numbers, its table, and the lengths of scratch, log and sheet.

@@ -1,5 +1,4 @@
--- `test_records::print_entries` is safe and ends: the place stays within the slice, and the measure is the number of values that
--- are left.
+-- `test_records::print_entries` is safe and ends: the place stays within the slice, and the measure is the number of values that are left.
 use Prim.Native.Nat.{_-_, _≤_}
 use lib.ListN.{length}
 use borrow.Author.Needs.{needs}
