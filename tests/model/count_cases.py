@@ -55,8 +55,8 @@ def bench_sheet():
             yield with_buffers(ProbePair(2, 2, 1, secret, 13, 33), table)
 
 
-# Both methods at every pair of widths: first and last positions, one twice, and others; two secrets of the same table. At n = m = 3,
-# where a count takes longest, there are fewer.
+# Both methods at every pair of widths: first and last positions, one twice, and others; two secrets of the same table. Position 8 always
+# shows 0, so that one count is all choices, 65536 at most. At n = m = 3, where a count takes longest, there are fewer pairs.
 def every_width():
     for method in (2, 3):
         for n in range(1, 4):
@@ -64,7 +64,7 @@ def every_width():
                 call, last = accepted(method, n, m), log_length(method, n) - 1
                 other = call.pair.secret ^ chance.randrange(1, 2**n)
                 between = [tuple(chance.randrange(1, last) for _ in range(2)) for _ in range(3)]
-                pairs = [(0, last), (last, last), *between, (last, 0), (7, 7), (13, last)]
+                pairs = [(0, last), (8, 8), (last, last), *between, (last, 0), (7, 7), (13, last)]
                 for first, second in pairs[:3] if m == 3 else pairs:
                     yield roomier(with_numbers(call, first=first, second=second))
                 yield from (with_numbers(call, first=13, second=last, secret=secret) for secret in (call.pair.secret, other))
@@ -135,8 +135,8 @@ def too_wide():
         yield from (with_numbers(call, secret=2**n), with_numbers(call, second=call.log), call._replace(table=call.table[1:]))
 
 
-# A fault alone, which is one that is made twice, and two faults together, also where n is above 3: the number that is checked first is
-# returned.
+# A fault alone, which is one that is made twice, two faults together, and one beside empty buffers, also where n is above 3: the number
+# that is checked first is returned.
 def two_faults():
     faults = (
         lambda call: with_numbers(call, method=chance.choice((0, 1, 4))),
@@ -155,6 +155,7 @@ def two_faults():
         for first, fault in enumerate(faults):
             for other in faults[first:]:
                 yield other(fault(accepted(chance.choice((2, 3)), n, 2)))
+            yield fault(accepted(chance.choice((2, 3)), n, 2))._replace(scratch=0, log=0, sheet=0)
 
 
 def record(call):
