@@ -1,10 +1,11 @@
 // Reading a case sheet. A field is 4 columns with a number of at most 255; a line of one field has a line feed behind it.
 ghost use mathlib.Core.Path.{_≡_};
-ghost use Prim.Native.Nat.{_≤_, _<_};
+ghost use Prim.Native.Nat.{_*_, _≤_, _<_};
 ghost use lib.ListN.{length, getD};
 ghost use Rattle.buffers.specs.Written.{in-front};
 ghost use Rattle.case_sheet.specs.Sheet.{item as Sheet·item, size as Sheet·size, leading as Sheet·leading, complete as Sheet·complete};
-ghost use Rattle.case_sheet.specs.Sheet.{accepted as Sheet·accepted, refused as Sheet·refused, table-of, sheet-of};
+ghost use Rattle.case_sheet.specs.Sheet.{accepted as Sheet·accepted, refused as Sheet·refused, columns, numbers-of, table-of};
+ghost use Rattle.case_sheet.specs.Sheet.{other-form, lines-of, sheet-of};
 use field::Field;
 use lookup::Case;
 
@@ -15,22 +16,61 @@ pub struct Sheet {
     pub entries: usize,
 }
 
-// Reads the whole sheet. The entries of the table's lines stand in front in the table, up to the first that is malformed; the rest of
-// the table is unchanged.
+// What stands on a sheet: whether it is malformed, and how many table entries it has.
+pub struct Lines {
+    pub malformed: bool,
+    pub entries: usize,
+}
+
+// Of a field.
+const COLUMNS: usize = 4;
+
+// Reads the bench's sheet, whose case line has ten numbers. The table is left as `read_numbers` leaves it.
 pub fn read(input: &[u8], table: &mut [u8; 256]) -> Sheet
     ensures { λ r. ⌜ r ≡ sheet-of (now (input .entry)) ⌝ }
-    ensures { λ _. ⌜ now (table .exit) ≡ in-front (table-of (now (input .entry))) (now (table .entry)) ⌝ }
+    ensures { λ _. ⌜ now (table .exit) ≡ in-front (table-of 10 (now (input .entry))) (now (table .entry)) ⌝ }
 {
-    if input.len() < 41 {
-        return refused();
-    }
     let mut numbers = [0u8; 10];
-    let fields = leading(input, false, &mut numbers);
-    let entries = leading(&input[41..], true, table);
-    if !complete(fields, entries, input) {
+    let lines = read_numbers(input, &mut numbers, table);
+    if lines.malformed {
         return refused();
     }
-    accepted(numbers, entries)
+    accepted(&numbers, lines.entries)
+}
+
+// Reads the whole sheet, with a field on its case line for each of the numbers; so that their columns can be counted there are few, and it
+// has a `requires`. What the fields and the table's lines hold stands in front in the numbers and in the table, up to the first that is
+// malformed; the rest of both is unchanged.
+pub fn read_numbers(input: &[u8], numbers: &mut [u8], table: &mut [u8; 256]) -> Lines
+    requires { ⌜ length (now numbers) ≤ 256 ⌝ }
+    ensures { λ r. ⌜ r ≡ lines-of (length (now (numbers .entry))) (now (input .entry)) ⌝ }
+    ensures { λ _. ⌜ now (numbers .exit) ≡ in-front (numbers-of (length (now (numbers .entry))) (now (input .entry)))
+        (now (numbers .entry)) ⌝ }
+    ensures { λ _. ⌜ now (table .exit) ≡ in-front (table-of (length (now (numbers .entry))) (now (input .entry))) (now (table .entry)) ⌝ }
+{
+    let fields = numbers.len();
+    let found = leading(input, false, numbers);
+    let start = COLUMNS * fields + 1;
+    if input.len() < start {
+        return other_form();
+    }
+    let entries = leading(&input[start..], true, table);
+    if !complete(fields, found, entries, input) {
+        return other_form();
+    }
+    Lines {
+        malformed: false,
+        entries,
+    }
+}
+
+fn other_form() -> Lines
+    ensures { λ r. ⌜ r ≡ other-form ⌝ }
+{
+    Lines {
+        malformed: true,
+        entries: 0,
+    }
 }
 
 // Reads the fields or lines in front, as many as there is room for the numbers, up to the first that is malformed.
@@ -62,37 +102,40 @@ fn item(bytes: &[u8], line: bool) -> Field
         return Field::Malformed;
     }
     if !line {
-        return field::read(&bytes[..4], 4, 255);
+        return field::read(&bytes[..COLUMNS], COLUMNS, 255);
     }
-    if bytes[4] != b'\n' {
+    if bytes[COLUMNS] != b'\n' {
         return Field::Malformed;
     }
-    field::read(&bytes[..4], 4, 255)
+    field::read(&bytes[..COLUMNS], COLUMNS, 255)
 }
 
 fn size(line: bool) -> usize
     ensures { λ r. ⌜ r ≡ Sheet·size line ⌝ }
 {
-    if line { 5 } else { 4 }
+    if line { COLUMNS + 1 } else { COLUMNS }
 }
 
-// Ten numbers, a line feed, table lines, and nothing behind them. The case line is there, and there are at most 256 entries, so it has
-// a `requires`.
-fn complete(fields: usize, entries: usize, input: &[u8]) -> bool
-    requires { ⌜ (41 ≤ length (now input)) × (entries ≤ 256) ⌝ }
-    ensures { λ r. ⌜ r ≡ Sheet·complete fields entries (now (input .entry)) ⌝ }
+// A number in each field, a line feed, table lines, and nothing behind them. The case line is there, and there are at most 256 fields and
+// entries, so it has a `requires`.
+fn complete(fields: usize, numbers: usize, entries: usize, input: &[u8]) -> bool
+    requires { ⌜ (columns * fields < length (now input)) × (fields ≤ 256) × (entries ≤ 256) ⌝ }
+    ensures { λ r. ⌜ r ≡ Sheet·complete fields numbers entries (now (input .entry)) ⌝ }
 {
-    if fields != 10 {
+    if numbers != fields {
         return false;
     }
-    if input[40] != b'\n' {
+    let feed = COLUMNS * fields;
+    if input[feed] != b'\n' {
         return false;
     }
-    41 + 5 * entries == input.len()
+    feed + 1 + (COLUMNS + 1) * entries == input.len()
 }
 
-fn accepted(numbers: [u8; 10], entries: usize) -> Sheet
-    ensures { λ r. ⌜ r ≡ Sheet·accepted numbers entries ⌝ }
+// The case of ten numbers, so it has a `requires`.
+fn accepted(numbers: &[u8], entries: usize) -> Sheet
+    requires { ⌜ length (now numbers) ≡ 10 ⌝ }
+    ensures { λ r. ⌜ r ≡ Sheet·accepted (now (numbers .entry)) entries ⌝ }
 {
     let case = Case {
         method: number(numbers, 0),
@@ -113,10 +156,10 @@ fn accepted(numbers: [u8; 10], entries: usize) -> Sheet
     }
 }
 
-// A number of the case line. There are ten, so it has a `requires`.
-fn number(numbers: [u8; 10], i: usize) -> u32
-    requires { ⌜ i < 10 ⌝ }
-    ensures { λ r. ⌜ r ≡ getD numbers i 0 ⌝ }
+// A number of a case line. It is one of those that were read, so it has a `requires`.
+pub fn number(numbers: &[u8], i: usize) -> u32
+    requires { ⌜ i < length (now numbers) ⌝ }
+    ensures { λ r. ⌜ r ≡ getD (now (numbers .entry)) i 0 ⌝ }
 {
     numbers[i] as u32
 }
