@@ -1,12 +1,16 @@
 -- The laws of written lists: how one write follows another.
 use mathlib.Core.Path.{_≡_, sym, ap, _∙_}
-use mathlib.Core.List.{List, _++_, append-assoc}
+use mathlib.Core.List.{List, [], _++_, append-assoc, append-nil}
 use Prim.Native.Nat.{ℕ, _+_, _≤_}
-use native.Mathlib.Nat.{zero-add}
+use native.Mathlib.Nat.{zero-add, add-zero}
 use native.Mathlib.Omega.{arith}
-use lib.ListN.{length, take, drop, length-append, length-drop}
+use lib.ListN.{length, take, drop, length-append, length-drop, take-append-drop}
 use lib.Seq.{drop-at, drop-drop, length-take-le, take-at}
 use Rattle.buffers.specs.Written.{written, in-front}
+
+pub written-none : (log : List ℕ) (position : ℕ) → written log position [] ≡ log
+unfolding written
+written-none log position = rw (add-zero, append-nil) (take-append-drop position log)
 
 -- entries written behind entries
 pub written-more : (log : List ℕ) (position k : ℕ) (es fs : List ℕ) → position + length es ≡ k → k + length fs ≤ length log

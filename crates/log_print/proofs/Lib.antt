@@ -1,3 +1,4 @@
 -- The laws of printed lines.
 pub mod Lines
 pub mod Entries
+pub mod Counts

@@ -1,20 +1,20 @@
-// Printing a log or a refusal. The caller's output is long enough for the longest log, so the functions here have a `requires`.
+// Printing lines of numbers: a log with its answer, a refusal, a count sheet. The caller's output is long enough for what is printed, so the
+// functions here have a `requires`.
 ghost use mathlib.Core.Path.{_≡_};
 ghost use mathlib.Core.List.{[], _∷_};
-ghost use Prim.Native.Nat.{_+_, _*_, _≤_};
+ghost use Prim.Native.Nat.{_+_, _*_, _≤_, _<_};
 ghost use lib.ListN.{length};
 ghost use Rattle.buffers.specs.Written.{written, in-front};
 ghost use Rattle.lookup.specs.Entry.{kind-of, value-of};
-ghost use Rattle.log_print.specs.Lines.{line-of, entry-lines, answer-lines};
+ghost use Rattle.log_print.specs.Lines.{line-of, entry-lines, answer-lines, count-lines};
 
 // A refusal's number is the only line. Returns the count of bytes.
 pub fn put_refusal(output: &mut [u8], refusal: u32) -> usize
     requires { ⌜ 5 ≤ length (now output) ⌝ }
-    ensures { λ r. ⌜ r ≡ length (line-of (refusal ∷ [])) ⌝ }
-    ensures { λ _. ⌜ now (output .exit) ≡ in-front (line-of (refusal ∷ [])) (now (output .entry)) ⌝ }
+    ensures { λ r. ⌜ r ≡ length (line-of 4 (refusal ∷ [])) ⌝ }
+    ensures { λ _. ⌜ now (output .exit) ≡ in-front (line-of 4 (refusal ∷ [])) (now (output .entry)) ⌝ }
 {
-    field::print(output, 0, 4, refusal);
-    output[4] = b'\n';
+    put_line(output, 0, 4, &[refusal]);
     5
 }
 
@@ -26,7 +26,7 @@ pub fn put_answer(output: &mut [u8], log: &[u16], share: u32, count: u32) -> usi
 {
     let last = 13 * log.len();
     put_entries(output, log, 0);
-    put_line(output, last, 0, share, count);
+    put_line(output, last, 4, &[0, share, count]);
     last + 13
 }
 
@@ -44,20 +44,43 @@ fn put_entries(output: &mut [u8], log: &[u16], first: u32)
 
 fn put_entry(output: &mut [u8], at: usize, position: u32, entry: u16)
     requires { ⌜ at + 13 ≤ length (now output) ⌝ }
-    ensures { λ _. ⌜ now (output .exit) ≡ written (now (output .entry)) at (line-of (position ∷ kind-of entry ∷ value-of entry ∷ [])) ⌝ }
+    ensures { λ _. ⌜ now (output .exit) ≡ written (now (output .entry)) at (line-of 4 (position ∷ kind-of entry ∷ value-of entry ∷ [])) ⌝ }
 {
     let kind = log_entries::kind(entry);
     let value = log_entries::value(entry);
-    put_line(output, at, position, kind, value);
+    put_line(output, at, 4, &[position, kind, value]);
 }
 
-// Three numbers and a line feed from a position on.
-fn put_line(output: &mut [u8], at: usize, first: u32, second: u32, third: u32)
-    requires { ⌜ at + 13 ≤ length (now output) ⌝ }
-    ensures { λ _. ⌜ now (output .exit) ≡ written (now (output .entry)) at (line-of (first ∷ second ∷ third ∷ [])) ⌝ }
+// A sheet's counts, a line for each side counts of them. Returns the count of bytes.
+pub fn put_counts(output: &mut [u8], counts: &[u32], side: usize) -> usize
+    requires { ⌜ (length (now counts) ≡ side * side) × (side * (8 * side + 1) ≤ length (now output)) ⌝ }
+    ensures { λ r. ⌜ r ≡ length (count-lines side side (now (counts .entry))) ⌝ }
+    ensures { λ _. ⌜ now (output .exit) ≡ in-front (count-lines side side (now (counts .entry))) (now (output .entry)) ⌝ }
 {
-    field::print(output, at, 4, first);
-    field::print(output, at + 4, 4, second);
-    field::print(output, at + 8, 4, third);
-    output[at + 12] = b'\n';
+    let mut at = 0;
+    let mut start = 0;
+    let mut u = 0;
+    while u < side {
+        let end = start + side;
+        put_line(output, at, 8, &counts[start..end]);
+        at += 8 * side + 1;
+        start = end;
+        u += 1;
+    }
+    at
+}
+
+// Numbers in columns, and a line feed, from a position on.
+pub fn put_line(output: &mut [u8], at: usize, columns: usize, numbers: &[u32])
+    requires { ⌜ (0 < columns) × (at + length (now numbers) * columns < length (now output)) ⌝ }
+    ensures { λ _. ⌜ now (output .exit) ≡ written (now (output .entry)) at (line-of columns (now (numbers .entry))) ⌝ }
+{
+    let mut next = at;
+    let mut i = 0;
+    while i < numbers.len() {
+        field::print(output, next, columns, numbers[i]);
+        next += columns;
+        i += 1;
+    }
+    output[next] = b'\n';
 }

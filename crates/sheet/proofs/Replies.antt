@@ -61,20 +61,20 @@ module _ (c : Case) (table : List ℕ) where
 
     module _ (malformed : Bool) (refusal : ℕ) (first : refusal ≡ cond malformed 1 (x .refusal)) where
       -- refused
-      refused : (refusal ≡ 0 → ⊥) → line-of (refusal ∷ []) ≡ cond malformed (line-of (1 ∷ [])) (reply c table)
+      refused : (refusal ≡ 0 → ⊥) → line-of 4 (refusal ∷ []) ≡ cond malformed (line-of 4 (1 ∷ [])) (reply c table)
       unfolding reply
       refused h = refused-by-cases malformed first
         where
-          refused-by-cases : (t : Bool) → refusal ≡ cond t 1 (x .refusal) → line-of (refusal ∷ []) ≡ cond t (line-of (1 ∷ [])) (reply c table)
+          refused-by-cases : (t : Bool) → refusal ≡ cond t 1 (x .refusal) → line-of 4 (refusal ∷ []) ≡ cond t (line-of 4 (1 ∷ [])) (reply c table)
           refused-by-cases true e = rw e
           refused-by-cases false e = rw (e, number, ne-eqb (case-refusal c table) 0 (λ z. h (e ∙ number ∙ z)))
 
-      pub refused-long : {k : ℕ} → (refusal ≡ 0 → ⊥) → k ≡ length (line-of (refusal ∷ []))
-          → k ≡ length (cond malformed (line-of (1 ∷ [])) (reply c table))
+      pub refused-long : {k : ℕ} → (refusal ≡ 0 → ⊥) → k ≡ length (line-of 4 (refusal ∷ []))
+          → k ≡ length (cond malformed (line-of 4 (1 ∷ [])) (reply c table))
       refused-long h e = e ∙ ap length (refused h)
 
-      pub refused-left : (before now : List ℕ) → (refusal ≡ 0 → ⊥) → now ≡ in-front (line-of (refusal ∷ [])) before
-          → now ≡ in-front (cond malformed (line-of (1 ∷ [])) (reply c table)) before
+      pub refused-left : (before now : List ℕ) → (refusal ≡ 0 → ⊥) → now ≡ in-front (line-of 4 (refusal ∷ [])) before
+          → now ≡ in-front (cond malformed (line-of 4 (1 ∷ [])) (reply c table)) before
       refused-left before now h e = e ∙ ap (λ l. in-front l before) (refused h)
 
       -- accepted
@@ -125,14 +125,14 @@ module _ (c : Case) (table : List ℕ) where
           pub answer-room : (output : List ℕ) → length output ≡ 32768 → 13 * length (take (x .count) now) + 13 ≤ length output
           answer-room output h = omega (arith, entries-lent, few)
 
-          answered : answer-lines (take (x .count) now) (x .share) (x .count) ≡ cond malformed (line-of (1 ∷ [])) (reply c table)
+          answered : answer-lines (take (x .count) now) (x .share) (x .count) ≡ cond malformed (line-of 4 (1 ∷ [])) (reply c table)
           unfolding reply
           answered = rw (entries, share, count, well-formed, eq-eqb (case-refusal c table) 0 whole)
 
           pub answered-long : {k : ℕ} → k ≡ length (answer-lines (take (x .count) now) (x .share) (x .count))
-              → k ≡ length (cond malformed (line-of (1 ∷ [])) (reply c table))
+              → k ≡ length (cond malformed (line-of 4 (1 ∷ [])) (reply c table))
           answered-long e = e ∙ ap length answered
 
           pub answered-left : (before after : List ℕ) → after ≡ in-front (answer-lines (take (x .count) now) (x .share) (x .count)) before
-              → after ≡ in-front (cond malformed (line-of (1 ∷ [])) (reply c table)) before
+              → after ≡ in-front (cond malformed (line-of 4 (1 ∷ [])) (reply c table)) before
           answered-left before after e = e ∙ ap (λ l. in-front l before) answered

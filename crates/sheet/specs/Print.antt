@@ -14,8 +14,8 @@ use Rattle.log_print.specs.Lines.{line-of, answer-lines}
 unfoldable pub reply : Case → (table : List ℕ) → List ℕ
 reply c table =
     cond (eqb (case-refusal c table) 0) (answer-lines (log-of c table) (answer c table) (log-length (c .method) (c .n)))
-    (line-of (case-refusal c table ∷ []))
+    (line-of 4 (case-refusal c table ∷ []))
 
 -- the whole output: 1 where the input is of another form
 unfoldable pub print : (input : List ℕ) → List ℕ
-print input = cond (well-formed input) (reply (case-read (numbers-of input)) (table-of input)) (line-of (1 ∷ []))
+print input = cond (well-formed 10 input) (reply (case-read (numbers-of 10 input)) (table-of 10 input)) (line-of 4 (1 ∷ []))

@@ -21,8 +21,8 @@ pub fn print(input: &[u8], output: &mut [u8; 32768]) -> usize
 
 // The answer to a case, or 1 to a malformed sheet. Scratch, log and output are long enough for any case, and the scratch is zeros.
 fn reply(malformed: bool, case: Case, table: &[u8], output: &mut [u8; 32768]) -> usize
-    ensures { λ r. ⌜ r ≡ length (cond malformed (line-of (1 ∷ [])) (Print·reply case (now (table .entry)))) ⌝ }
-    ensures { λ _. ⌜ now (output .exit) ≡ in-front (cond malformed (line-of (1 ∷ [])) (Print·reply case (now (table .entry))))
+    ensures { λ r. ⌜ r ≡ length (cond malformed (line-of 4 (1 ∷ [])) (Print·reply case (now (table .entry)))) ⌝ }
+    ensures { λ _. ⌜ now (output .exit) ≡ in-front (cond malformed (line-of 4 (1 ∷ [])) (Print·reply case (now (table .entry))))
         (now (output .entry)) ⌝ }
 {
     let mut scratch = [0u8; 256];
