@@ -26,6 +26,25 @@ pub fn read(file: i32, space: &mut [u8]) -> bool
     io::read_full(file, space) == space.len()
 }
 
+// What a file of sheets holds next: a sheet of so many bytes, or no more.
+pub enum Sheet {
+    Bytes(usize),
+    None,
+}
+
+// Reads the next sheet into the front of the space: its length as two little-endian bytes, then its bytes, as far as the space goes.
+pub fn next_sheet(file: i32, space: &mut [u8]) -> Sheet {
+    let mut size = [0u8; 2];
+    if !read(file, &mut size) {
+        return Sheet::None;
+    }
+    let count = least(length(&size, 0), space.len());
+    if !read(file, &mut space[..count]) {
+        return Sheet::None;
+    }
+    Sheet::Bytes(count)
+}
+
 // The byte at a place; past the end it is 0.
 pub fn byte(bytes: &[u8], at: usize) -> usize
     ensures { λ r. ⌜ r ≡ getD (now (bytes .entry)) at 0 ⌝ }

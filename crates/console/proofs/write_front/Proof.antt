@@ -1,12 +1,12 @@
--- `bench::write_front` is safe and ends: a part of the slice is as long as it says.
+-- `console::write_front` is safe and ends: a part of the slice is as long as it says.
 use mathlib.Core.Path.{_≡_, sym}
 use mathlib.Core.List.{List}
 use Prim.Native.Nat.{ℕ, _≤_}
 use borrow.Author.Needs.{needs}
 use lib.ListN.{length, take}
 use lib.Seq.{length-take-le}
-use Rattle.bench.proofs.write_front.Statement.{statement}
-use Rattle.bench.proofs.write_front.Tie as tie
+use Rattle.console.proofs.write_front.Statement.{statement}
+use Rattle.console.proofs.write_front.Tie as tie
 
 front : (n : ℕ) (l : List ℕ) → n ≤ length l → n ≡ length (take n l)
 front n l h = sym (length-take-le n l h)

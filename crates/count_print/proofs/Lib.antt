@@ -1,0 +1,5 @@
+-- The laws of the print.
+pub mod Refusals
+pub mod Replies
+pub mod Prints
+pub mod Promises

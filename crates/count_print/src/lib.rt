@@ -1,0 +1,60 @@
+// The count print: what the program answers to a probe sheet.
+ghost use mathlib.Core.Path.{_≡_};
+ghost use Prim.Native.Nat.{max};
+ghost use lib.ListN.{length};
+ghost use Rattle.buffers.specs.Written.{in-front};
+ghost use Rattle.count_print.specs.Print.{print as Print·print, reply as Print·reply, pair-read};
+use count_sheet::ProbePair;
+
+// Prints the answer to the input in front in the output, and returns the count of its bytes. The output is long enough for any answer.
+pub fn print(input: &[u8], output: &mut [u8; 1024]) -> usize
+    ensures { λ r. ⌜ r ≡ length (Print·print (now (input .entry))) ⌝ }
+    ensures { λ _. ⌜ now (output .exit) ≡ in-front (Print·print (now (input .entry))) (now (output .entry)) ⌝ }
+{
+    let mut numbers = [0u8; 6];
+    let mut table = [0u8; 256];
+    let lines = case_sheet::read_numbers(input, &mut numbers, &mut table);
+    if lines.malformed {
+        return log_print::put_refusal(output, 1);
+    }
+    let entries = lines.entries;
+    reply(pair_from(&numbers), &table[..entries], output)
+}
+
+// The probe pair of six numbers, so it has a `requires`.
+fn pair_from(numbers: &[u8]) -> ProbePair
+    requires { ⌜ length (now numbers) ≡ 6 ⌝ }
+    ensures { λ r. ⌜ r ≡ pair-read (now (numbers .entry)) ⌝ }
+{
+    ProbePair {
+        method: case_sheet::number(numbers, 0),
+        n: case_sheet::number(numbers, 1),
+        m: case_sheet::number(numbers, 2),
+        secret: case_sheet::number(numbers, 3),
+        first: case_sheet::number(numbers, 4),
+        second: case_sheet::number(numbers, 5),
+    }
+}
+
+// The answer to a case. Scratch, log, sheet and output are long enough for any.
+fn reply(pair: ProbePair, table: &[u8], output: &mut [u8; 1024]) -> usize
+    ensures { λ r. ⌜ r ≡ length (Print·reply pair (now (table .entry))) ⌝ }
+    ensures { λ _. ⌜ now (output .exit) ≡ in-front (Print·reply pair (now (table .entry))) (now (output .entry)) ⌝ }
+{
+    let mut scratch = [0u8; 256];
+    let mut log = [0u16; 2400];
+    let mut sheet = [0u32; 64];
+    let refusal = count_sheet::count_sheet(pair, table, &mut scratch, &mut log, &mut sheet);
+    if refusal != 0 {
+        return log_print::put_refusal(output, refusal);
+    }
+    let side = bits::power(larger(pair.n, pair.m)) as usize;
+    let size = side * side;
+    log_print::put_counts(output, &sheet[..size], side)
+}
+
+fn larger(one: u32, other: u32) -> u32
+    ensures { λ r. ⌜ r ≡ max one other ⌝ }
+{
+    if one < other { other } else { one }
+}
