@@ -1,16 +1,18 @@
 # `make` proves everything and builds what a user links or runs; `make test` is the gate; `make help` says what else there is.
-.PHONY: all lib bench demo sbox audit speed test install uninstall clean help
+.PHONY: all lib bench counts demo sbox audit speed test install uninstall clean help
 
-# the case sheet that `make bench` prints
+# the sheets that `make bench` and `make counts` answer
 SHEET = examples/p1.sheet
+COUNTS = examples/p12.counts
 # where things are installed; DESTDIR stands before it, for packages that are put together elsewhere
 PREFIX = /usr/local
 DESTDIR =
 
 archive = target/staticlib/libcippazhey.a
-program = target/bin/bench
+programs = target/bin/bench target/bin/counts
 prefix = $(abspath $(PREFIX))
-installed = $(addprefix $(DESTDIR)$(prefix)/,lib/libcippazhey.a include/cippazhey.h lib/pkgconfig/cippazhey.pc bin/cippazhey-bench)
+installed = $(addprefix $(DESTDIR)$(prefix)/,lib/libcippazhey.a include/cippazhey.h lib/pkgconfig/cippazhey.pc \
+	bin/cippazhey-bench bin/cippazhey-counts)
 part_of_version = $(shell sed -n 's/^\#define CIPPAZHEY_VERSION_$(1) //p' include/cippazhey.h)
 version = $(call part_of_version,MAJOR).$(call part_of_version,MINOR).$(call part_of_version,PATCH)
 # what is shown of long work counts from here
@@ -29,13 +31,20 @@ lib: ## target/staticlib/libcippazhey.a, whose header is include/cippazhey.h
 	$(call rt_in,check,check cippazhey)
 	$(call rt_in,lib,staticlib cippazhey)
 
-# where a program is gone, it is linked again
-bench: ## the log of a case sheet (SHEET=..), printed by the proved program
+# what a program prints of a sheet, both arguments; where the program is gone, it is linked again
+define print
 	@.ci/tools rt
-	@test -r $(SHEET) || { echo 'there is no sheet $(SHEET)'; exit 1; }
-	@test -x $(program) || rm -f target/stamp/bench
-	$(call rt_in,bench,check bench)
-	@$(program) < $(SHEET)
+	@test -r $(2) || { echo 'there is no sheet $(2)'; exit 1; }
+	@test -x target/bin/$(1) || rm -f target/stamp/$(1)
+	$(call rt_in,$(1),check $(1))
+	@target/bin/$(1) < $(2)
+endef
+
+bench: ## the log of a case sheet (SHEET=..), printed by the proved program
+	$(call print,bench,$(SHEET))
+
+counts: ## the counts of a probe sheet (COUNTS=..), printed by the proved program
+	$(call print,counts,$(COUNTS))
 
 demo: ## masked lookups and a whole frame from C, on the proved archive
 	@.ci/tools x86-64 rt cc
@@ -45,10 +54,7 @@ demo: ## masked lookups and a whole frame from C, on the proved archive
 	@target/demo && target/demo_frame
 
 sbox: ## the S-box of FIPS 197, printed by the proved program
-	@.ci/tools rt
-	@test -x target/bin/sbox_print || rm -f target/stamp/sbox_print
-	$(call rt_in,sbox,check sbox_print)
-	@target/bin/sbox_print
+	$(call print,sbox_print,/dev/null)
 
 # the frame with three times the gate's keys
 audit: ## what the machine code does with the masks, an instruction at a time; x86-64 Linux only
@@ -70,14 +76,16 @@ folder_is_fit = @case '$(DESTDIR)$(PREFIX)' in *[[:space:]]*) echo 'a folder wit
 	test '$(DESTDIR)$(prefix)' != '$(CURDIR)' || { echo 'PREFIX is this folder itself: take another'; exit 1; }
 
 install: ## what `make` has built, into PREFIX (/usr/local), with DESTDIR before it
-	@test -f $(archive) -a -f $(program) || { echo 'there is nothing to install yet, or not all of it: run `make` first'; exit 1; }
+	@for file in $(archive) $(programs); do test -f $$file || \
+		{ echo 'there is nothing to install yet, or not all of it: run `make` first'; exit 1; }; done
 	$(folder_is_fit)
 	install -d $(dir $(installed))
 	install -m 644 $(archive) $(word 1,$(installed))
 	install -m 644 include/cippazhey.h $(word 2,$(installed))
 	sed -e 's|@PREFIX@|$(prefix)|' -e 's|@VERSION@|$(version)|' include/cippazhey.pc.in > $(word 3,$(installed))
 	chmod 644 $(word 3,$(installed))
-	install -m 755 $(program) $(word 4,$(installed))
+	install -m 755 $(word 1,$(programs)) $(word 4,$(installed))
+	install -m 755 $(word 2,$(programs)) $(word 5,$(installed))
 
 uninstall: ## removes what `make install` puts there; takes the same PREFIX and DESTDIR
 	$(folder_is_fit)

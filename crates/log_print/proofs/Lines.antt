@@ -7,7 +7,7 @@ use native.Mathlib.Numerals.{add-one}
 use native.Mathlib.Omega.{arith}
 use mir.Syntax.{w64}
 use mir.Val.{Fits}
-use lib.ListN.{length, getD, take, set, length-append, length-set}
+use lib.ListN.{length, getD, take, set, length-append}
 use lib.Seq.{set-split, take-suc, take-all, length-take-le}
 use Rattle.buffers.specs.Written.{written, in-front}
 use Rattle.buffers.proofs.Written.{written-none, written-more, written-long, written-front}
@@ -109,10 +109,6 @@ module _ (columns at : ℕ) (numbers before : List ℕ) where
         set-written now next 10 (feed-room h)
         ∙ rw (f .filled) (written-more before at next _ (10 ∷ []) (omega (arith, counted, f .place)) (omega (arith, feed-room h, f .long)))
         ∙ ap (written before at) all
-
-    -- the output is as long as it was
-    pub filling-same : length numbers ≤ i → length (set now next 10) ≡ length before
-    filling-same h = simp length-set (f .long)
 
 -- a refusal is a line alone
 pub refusal-long : (x : ℕ) → 5 ≡ length (line-of 4 (x ∷ []))

@@ -3,7 +3,7 @@ use borrow.Author.Needs.{needs}
 use Prim.Native.Nat.{_-_}
 use lib.ListN.{length}
 use Rattle.log_print.proofs.Lines.{Filling, filling-begins, filling-room, filling-fits, filling-turns}
-use Rattle.log_print.proofs.Lines.{feed-room, filling-same, filling-ends}
+use Rattle.log_print.proofs.Lines.{feed-room, filling-ends}
 use Rattle.log_print.proofs.put_line.Statement.{statement}
 use Rattle.log_print.proofs.put_line.Tie as tie
 
@@ -18,4 +18,4 @@ put-line-spec =
     tie.close
     (tie.spec Inv μ (λ c. search filling-begins) (λ c. search needs) (λ c. search needs) (λ c κs. (search needs, search filling-room))
     (λ c. search filling-fits) (λ c. search needs) (λ c. search needs) (λ c. search filling-turns) (λ c. search feed-room)
-    (λ c. search filling-same) (λ c. search filling-ends))
+    (λ c. search needs) (λ c. search filling-ends))
