@@ -2,7 +2,7 @@
 use mathlib.Core.Path.{_≡_, refl, sym}
 use mathlib.Core.Bool.{Bool, true, false, not, cond, true≢false}
 use mathlib.Core.List.{List, [], _∷_}
-use Prim.Native.Nat.{ℕ, zero, suc, _≤_, _<_}
+use Prim.Native.Nat.{ℕ, zero, suc, _+_, _≤_, _<_}
 use native.Mathlib.Omega.{arith}
 use borrow.Author.Tests.{eq-eqb, ne-eqb, eqb-true}
 use lib.Dec.{eqb}
@@ -12,41 +12,41 @@ use Rattle.field.specs.declared.Field.{Field}
 use Rattle.field.specs.declared.Field.the-variants.{Number, Malformed}
 use Rattle.field.specs.Field.{field-of}
 use Rattle.field.proofs.Reading.{other-width, number-found}
-use Rattle.case_sheet.specs.Sheet.{item, size}
+use Rattle.case_sheet.specs.Sheet.{columns, item, size}
 
 -- too few bytes
 pub short : (line : Bool) (bytes : List ℕ) (least : ℕ) → least ≡ size line → length bytes < least → Malformed ≡ item line bytes
 unfolding item size
-short true bytes least e h = rw (List·getD-eq-default bytes 0 {n = 4} (omega arith))
-short false bytes least e h = other-width 4 255 (take 4 bytes) (λ q. omega (arith, length-take 4 bytes))
+short true bytes least e h = rw (List·getD-eq-default bytes 0 {n = columns} (omega arith))
+short false bytes least e h = other-width columns 255 (take columns bytes) (λ q. omega (arith, length-take columns bytes))
 
 -- a field alone
-pub alone : {r : Field} (line : Bool) (bytes : List ℕ) → not line ≡ true → r ≡ field-of 4 255 (take 4 bytes) → r ≡ item line bytes
+pub alone : {r : Field} (line : Bool) (bytes : List ℕ) → not line ≡ true → r ≡ field-of columns 255 (take columns bytes) → r ≡ item line bytes
 unfolding item
 alone true bytes h e = absurd (true≢false (sym h))
 alone false bytes h e = e
 
 -- a line, without a line feed or with it
-pub no-feed : (line : Bool) (bytes : List ℕ) → (getD bytes 4 0 ≡ 10 → ⊥) → not line ≡ false → Malformed ≡ item line bytes
+pub no-feed : (line : Bool) (bytes : List ℕ) → (getD bytes columns 0 ≡ 10 → ⊥) → not line ≡ false → Malformed ≡ item line bytes
 unfolding item
-no-feed true bytes n h = rw (ne-eqb (getD bytes 4 0) 10 n)
+no-feed true bytes n h = rw (ne-eqb (getD bytes columns 0) 10 n)
 no-feed false bytes n h = absurd (true≢false h)
 
-pub ended : {r : Field} (line : Bool) (bytes : List ℕ) → getD bytes 4 0 ≡ 10 → r ≡ field-of 4 255 (take 4 bytes) → r ≡ item line bytes
+pub ended : {r : Field} (line : Bool) (bytes : List ℕ) → getD bytes columns 0 ≡ 10 → r ≡ field-of columns 255 (take columns bytes) → r ≡ item line bytes
 unfolding item
-ended true bytes f e = rw (eq-eqb (getD bytes 4 0) 10 f) e
+ended true bytes f e = rw (eq-eqb (getD bytes columns 0) 10 f) e
 ended false bytes f e = e
 
-four-within : (line : Bool) (bytes : List ℕ) (least : ℕ) → least ≡ size line → least ≤ length bytes → 4 ≤ length bytes
+columns-within : (line : Bool) (bytes : List ℕ) (least : ℕ) → least ≡ size line → least ≤ length bytes → columns ≤ length bytes
 unfolding size
-four-within true bytes least e h = omega arith
-four-within false bytes least e h = omega arith
+columns-within true bytes least e h = omega arith
+columns-within false bytes least e h = omega arith
 
-pub four-lent : (line : Bool) (bytes : List ℕ) (least : ℕ) → least ≡ size line → least ≤ length bytes → 4 ≡ length (take 4 bytes)
-four-lent line bytes least e h = sym (length-take-le 4 bytes (four-within line bytes least e h))
+pub columns-lent : (line : Bool) (bytes : List ℕ) (least : ℕ) → least ≡ size line → least ≤ length bytes → columns ≡ length (take columns bytes)
+columns-lent line bytes least e h = sym (length-take-le columns bytes (columns-within line bytes least e h))
 
 pub feed-within : (line : Bool) (bytes : List ℕ) (least : ℕ) → least ≡ size line → least ≤ length bytes → not line ≡ false
-    → 4 < length bytes
+    → columns < length bytes
 unfolding size
 feed-within true bytes least e h q = omega arith
 feed-within false bytes least e h q = absurd (true≢false q)
@@ -61,11 +61,11 @@ feed-there (byte ∷ bytes) (suc i) e = omega (arith, feed-there bytes i e)
 pub item-found : (line : Bool) (bytes : List ℕ) (value : ℕ) → item line bytes ≡ Number value → (size line ≤ length bytes) × (value ≤ 255)
 unfolding item size
 item-found false bytes value e =
-    let known = number-found 4 255 (take 4 bytes) value e in
-    (omega (arith, length-take 4 bytes, known .0), known .1)
-item-found true bytes value e = item-found-by-cases (eqb (getD bytes 4 0) 10) refl e
+    let known = number-found columns 255 (take columns bytes) value e in
+    (omega (arith, length-take columns bytes, known .0), known .1)
+item-found true bytes value e = item-found-by-cases (eqb (getD bytes columns 0) 10) refl e
   where
-    item-found-by-cases : (t : Bool) → eqb (getD bytes 4 0) 10 ≡ t → cond (not t) Malformed (field-of 4 255 (take 4 bytes)) ≡ Number value
-        → (5 ≤ length bytes) × (value ≤ 255)
+    item-found-by-cases : (t : Bool) → eqb (getD bytes columns 0) 10 ≡ t → cond (not t) Malformed (field-of columns 255 (take columns bytes)) ≡ Number value
+        → (columns + 1 ≤ length bytes) × (value ≤ 255)
     item-found-by-cases false q e = let z : _≡_ {A = ℕ} 0 1 = cc in absurd (omega arith)
-    item-found-by-cases true q e = (feed-there bytes 4 (eqb-true _ _ q), number-found 4 255 (take 4 bytes) value e .1)
+    item-found-by-cases true q e = (feed-there bytes columns (eqb-true _ _ q), number-found columns 255 (take columns bytes) value e .1)

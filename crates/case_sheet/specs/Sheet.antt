@@ -1,5 +1,5 @@
--- A case sheet: a case line of so many fields, ten for the bench, then at most 256 lines of one table entry, each number in 4 columns and at
--- most 255, each line ended by a line feed (10).
+-- A case sheet: a case line of so many fields, ten for the bench, then at most 256 lines of one field, a table entry. A field's number is at
+-- most 255, and each line is ended by a line feed (10).
 use mathlib.Core.Bool.{Bool, true, false, _&&_, not, cond}
 use mathlib.Core.List.{List, [], _∷_}
 use Prim.Native.Nat.{ℕ, zero, suc, _+_, _*_}
@@ -12,7 +12,7 @@ use Rattle.field.specs.Field.{field-of}
 use Rattle.case_sheet.specs.declared.Lines.{Lines}
 use Rattle.case_sheet.specs.declared.Sheet.{Sheet}
 
--- of a field
+-- how many columns a field has
 abbrev pub columns : ℕ
 columns = 4
 

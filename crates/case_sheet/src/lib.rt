@@ -1,4 +1,4 @@
-// Reading a case sheet. A field is 4 columns with a number of at most 255; a line of one field has a line feed behind it.
+// Reading a case sheet: a line of fields, each a number of at most 255 in its columns, then lines of one field, a table's entries.
 ghost use mathlib.Core.Path.{_≡_};
 ghost use Prim.Native.Nat.{_*_, _≤_, _<_};
 ghost use lib.ListN.{length, getD};
@@ -22,7 +22,7 @@ pub struct Lines {
     pub entries: usize,
 }
 
-// Of a field.
+// How many columns a field has.
 const COLUMNS: usize = 4;
 
 // Reads the bench's sheet, whose case line has ten numbers. The table is left as `read_numbers` leaves it.
