@@ -16,7 +16,7 @@ use Rattle.count_sheet.specs.declared.ProbePair.{ProbePair}
 use Rattle.count_sheet.specs.Refusals.{value-width, pair-checks, buffer-checks, sheet-checks, count-refusal}
 use Rattle.count_print.specs.Print.{print-refusal}
 use Rattle.count_print.specs.Promises.{Lent-enough}
-use Rattle.count_print.proofs.Refusals.{side-most, squared, log-most, scratch-most}
+use Rattle.count_print.proofs.Refusals.{side-most, squared, log-small, scratch-small}
 
 -- where a list of checks lets all through, what stands behind it decides
 same-behind : (cs ds es : List Check) → (first-of cs ≡ 0 → first-of ds ≡ first-of es) → first-of (cs ++ ds) ≡ first-of (cs ++ es)
@@ -49,5 +49,5 @@ unfolding Lent-enough print-refusal count-refusal buffer-checks sheet-checks
 lent-enough table p =
     rw append-assoc
     (same-behind (pair-checks p table) _ _
-    (λ e. third-and-fourth _ _ _ _ _ (le-ltb _ _ (scratch-most p table e)) (le-ltb 2400 (log-length (p .method) (p .n)) (omega (arith, log-most p table e)))
+    (λ e. third-and-fourth _ _ _ _ _ (le-ltb _ _ (scratch-small p table e)) (le-ltb 2400 (log-length (p .method) (p .n)) (omega (arith, log-small p table e)))
     (λ f. le-ltb _ _ (sheet-most p f))))

@@ -15,8 +15,7 @@ use Rattle.table.specs.Refusals.{table-checks, table-refusal}
 use Rattle.table.proofs.Refusals.{Table, table-accepted, table-numbered}
 use Rattle.lookup.specs.Methods.{known}
 use Rattle.lookup.specs.Call.{log-length, scratch-length}
-use Rattle.lookup.proofs.Methods.{of-each}
-use Rattle.lookup.proofs.Right.{Right, right}
+use Rattle.lookup.proofs.Sizes.{log-most, scratch-most}
 use Rattle.count_sheet.specs.declared.ProbePair.{ProbePair}
 use Rattle.count_sheet.specs.Refusals.{value-width, pair-checks, buffer-checks, sheet-checks, count-refusal}
 
@@ -71,13 +70,8 @@ module _ (p : ProbePair) where
           table-accepted (p .n) (p .m) table
           (passed-both (table-checks (p .n) (p .m) table) _ (table-numbered (p .n) (p .m) table) (passed _ 1 _ e .1) .0)
 
-      inputs-most : 2 ^ p .n ≤ 256
-      inputs-most = pow-mono (table-taken .input-most)
+      pub log-small : log-length (p .method) (p .n) ≤ 2314
+      log-small = log-most (p .method) (p .n) method-known (table-taken .input-most)
 
-      pub log-most : log-length (p .method) (p .n) ≤ 2314
-      unfolding log-length
-      log-most = omega (arith, of-each {P = Right} (p .method) right method-known .short (2 ^ p .n), inputs-most)
-
-      pub scratch-most : scratch-length (p .method) (p .n) ≤ 256
-      unfolding scratch-length
-      scratch-most = omega (arith, of-each {P = Right} (p .method) right method-known .lean (2 ^ p .n), inputs-most)
+      pub scratch-small : scratch-length (p .method) (p .n) ≤ 256
+      scratch-small = scratch-most (p .method) (p .n) method-known (table-taken .input-most)

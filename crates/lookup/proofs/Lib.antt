@@ -10,4 +10,5 @@ pub mod Third
 pub mod Layouts
 pub mod Right
 pub mod Runs
+pub mod Sizes
 pub mod Promises

@@ -2,7 +2,7 @@
 use mathlib.Core.Path.{_≡_, refl, sym, ap, _∙_}
 use mathlib.Core.Bool.{Bool, true, false, cond}
 use mathlib.Core.List.{List, [], _∷_}
-use Prim.Native.Nat.{ℕ, zero, suc, _+_, _*_, _^_, _≤_}
+use Prim.Native.Nat.{ℕ, zero, suc, _+_, _*_, _≤_}
 use native.Mathlib.Omega.{arith}
 use borrow.Author.Tests.{eq-eqb, ne-eqb}
 use lib.ListN.{length, take, replicate, length-take}
@@ -13,9 +13,10 @@ use Rattle.lookup.specs.declared.Called.{Called}
 use Rattle.lookup.specs.Call.{answer, log-of, log-length, scratch-length}
 use Rattle.lookup.specs.Refusals.{case-refusal, plain-refusal, logged-refusal}
 use Rattle.lookup.specs.Promises.{Cleared-taken, Log-long}
-use Rattle.lookup.proofs.Accepted.{accepted, accepted-bounded}
+use Rattle.lookup.proofs.Accepted.{accepted}
 use Rattle.lookup.proofs.Refused.{log-not-refused, logged-by-plain}
-use Rattle.lookup.proofs.Promises.{taken-right, cleared-taken, log-long}
+use Rattle.lookup.proofs.Sizes.{log-most, scratch-most}
+use Rattle.lookup.proofs.Promises.{cleared-taken, log-long}
 use Rattle.refusals.specs.Left.{left}
 use Rattle.calls.specs.Reply.{called, logged-reply, logged-log}
 use Rattle.call_checks.proofs.Checking.{at-case, at-plain}
@@ -30,16 +31,11 @@ called-number (suc k) share count = refl
 module _ (c : Case) (table : List ℕ) where
   -- the longest log and scratch
   module _ (e : case-refusal c table ≡ 0) where
-    size : 2 ^ c .n ≤ 256
-    size = accepted-bounded _ c table (taken-right c table (accepted c table e) .bit) (accepted c table e .1) .size
+    log-small : log-length (c .method) (c .n) ≤ 2314
+    log-small = log-most (c .method) (c .n) (accepted c table e .0) (accepted c table e .1 .table .input-most)
 
-    log-most : log-length (c .method) (c .n) ≤ 2314
-    unfolding log-length
-    log-most = omega (arith, taken-right c table (accepted c table e) .short (2 ^ c .n), size)
-
-    scratch-most : scratch-length (c .method) (c .n) ≤ 256
-    unfolding scratch-length
-    scratch-most = omega (arith, taken-right c table (accepted c table e) .lean (2 ^ c .n), size)
+    scratch-small : scratch-length (c .method) (c .n) ≤ 256
+    scratch-small = scratch-most (c .method) (c .n) (accepted c table e .0) (accepted c table e .1 .table .input-most)
 
   -- zeros are lent, and scratch and log are long enough, so only the case is refused
   module _ (scratch lent : List ℕ) (x : Called) (told : x ≡ logged-reply c table scratch lent)
@@ -50,8 +46,8 @@ module _ (c : Case) (table : List ℕ) where
       where
         same-refusal-by-cases : (k : ℕ) → k ≡ case-refusal c table → logged-refusal c table scratch lent ≡ case-refusal c table
         same-refusal-by-cases zero e =
-            logged-by-plain c table scratch lent (log-not-refused c lent (omega (arith, log-most (sym e))))
-            ∙ ap (plain-refusal c table) zeros ∙ cleared-taken table 256 c (scratch-most (sym e))
+            logged-by-plain c table scratch lent (log-not-refused c lent (omega (arith, log-small (sym e))))
+            ∙ ap (plain-refusal c table) zeros ∙ cleared-taken table 256 c (scratch-small (sym e))
         same-refusal-by-cases (suc k) e =
             sym (at-plain c table scratch lent (suc k) (at-case c table scratch (suc k) e (λ z. omega arith)) (λ z. omega arith)) ∙ e
 
@@ -105,7 +101,7 @@ module _ (c : Case) (table : List ℕ) where
         long = log-long table c whole .0 ∙ sym count
 
         few : x .count ≤ 2314
-        few = rw count (log-most whole)
+        few = rw count (log-small whole)
 
         module _ (now : List ℕ) (left-is : now ≡ logged-log c table scratch lent) where
           -- the entries in front are the log
