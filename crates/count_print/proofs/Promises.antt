@@ -1,17 +1,15 @@
 -- The proof of specs/Promises.antt.
-use mathlib.Core.Path.{_≡_, refl, sym, ap, _∙_}
+use mathlib.Core.Path.{_≡_, refl}
 use mathlib.Core.Bool.{Bool, true, false, cond}
 use mathlib.Core.List.{List, [], _∷_, _++_, append-assoc}
-use Prim.Native.Nat.{ℕ, _*_, _^_, _≤_, _<_}
+use Prim.Native.Nat.{_*_, _^_, _≤_}
 use native.Mathlib.Nat.{mul-le-mul}
 use native.Mathlib.Omega.{arith}
 use borrow.Author.Tests.{le-ltb}
-use lib.Dec.{ltb}
-use lib.ListN.{length, replicate}
 use Rattle.refusals.specs.Checks.{Check, _when_, first-of}
 use Rattle.refusals.specs.Tests.{any-from}
 use Rattle.refusals.proofs.Tests.{all-below}
-use Rattle.lookup.specs.Call.{log-length, scratch-length}
+use Rattle.lookup.specs.Call.{log-length}
 use Rattle.count_sheet.specs.declared.ProbePair.{ProbePair}
 use Rattle.count_sheet.specs.Refusals.{value-width, pair-checks, buffer-checks, sheet-checks, count-refusal}
 use Rattle.count_print.specs.Print.{print-refusal}
