@@ -12,9 +12,10 @@ use Rattle.refusals.proofs.Tests.{all-below}
 use Rattle.lookup.specs.Call.{log-length}
 use Rattle.count_sheet.specs.declared.ProbePair.{ProbePair}
 use Rattle.count_sheet.specs.Refusals.{value-width, pair-checks, buffer-checks, sheet-checks, count-refusal}
+use Rattle.count_sheet.proofs.Places.{squared}
 use Rattle.count_print.specs.Print.{print-refusal}
 use Rattle.count_print.specs.Promises.{Lent-enough}
-use Rattle.count_print.proofs.Refusals.{side-most, squared, log-small, scratch-small}
+use Rattle.count_print.proofs.Refusals.{width-small, side-most, log-small, scratch-small}
 
 -- where a list of checks lets all through, what stands behind it decides
 same-behind : (cs ds es : List Check) → (first-of cs ≡ 0 → first-of ds ≡ first-of es) → first-of (cs ++ ds) ≡ first-of (cs ++ es)
@@ -38,9 +39,10 @@ third-and-fourth a b false d e f g h = rw (f, g, h refl)
 -- n and m at most 3: a sheet has at most 64 counts
 sheet-most : (p : ProbePair) → any-from 4 (p .n ∷ p .m ∷ []) ≡ false → 2 ^ (2 * value-width p) ≤ 64
 sheet-most p e =
-    let n-small = all-below 4 (p .n) _ e in
-    let most = side-most p (n-small .0) (all-below 4 (p .m) _ (n-small .1) .0) in
-    rw (squared p) (mul-le-mul most most)
+    let n = all-below 4 (p .n) _ e in
+    let m = all-below 4 (p .m) _ (n .1) in
+    let most = side-most p (width-small p (omega (arith, n .0)) (omega (arith, m .0))) in
+    rw (squared (value-width p)) (mul-le-mul most most)
 
 pub lent-enough : Lent-enough
 unfolding Lent-enough print-refusal count-refusal buffer-checks sheet-checks

@@ -16,8 +16,10 @@ use Rattle.log_print.specs.Lines.{line-of, count-lines}
 use Rattle.count_sheet.specs.declared.ProbePair.{ProbePair}
 use Rattle.count_sheet.specs.Refusals.{value-width, count-refusal}
 use Rattle.count_sheet.specs.Sheet.{counts, sheet-left}
+use Rattle.count_sheet.proofs.Checking.{accepted}
+use Rattle.count_sheet.proofs.Places.{squared}
 use Rattle.count_print.specs.Print.{print-refusal, reply}
-use Rattle.count_print.proofs.Refusals.{width-small, side-most, squared, narrow}
+use Rattle.count_print.proofs.Refusals.{width-small, side-most}
 
 module _ (p : ProbePair) (table : List ℕ) (refusal : ℕ)
     (told : refusal ≡ count-refusal p table (replicate 256 0) (replicate 2400 0) (replicate 64 0)) where
@@ -35,22 +37,24 @@ module _ (p : ProbePair) (table : List ℕ) (refusal : ℕ)
 
   -- accepted
   module _ (z : refusal ≡ 0) (width : ℕ) (wide : width ≡ max (p .n) (p .m)) where
-    small : (p .n < 4) × (p .m < 4)
-    small = narrow p table (replicate 256 0) (replicate 2400 0) (replicate 64 0) (sym told ∙ z)
+    small : value-width p ≤ 3
+    small =
+        let t = accepted p table (replicate 256 0) (replicate 2400 0) (replicate 64 0) (sym told ∙ z) .countable in
+        width-small p (t .input) (t .output)
 
     same-width : width ≡ value-width p
     unfolding value-width
     same-width = wide
 
     pub power-known : width < 32
-    power-known = omega (arith, same-width, width-small p (small .0) (small .1))
+    power-known = omega (arith, same-width, small)
 
     module _ (side : ℕ) (powered : side ≡ 2 ^ width) where
       same-side : side ≡ 2 ^ value-width p
       same-side = powered ∙ rw same-width
 
       few : side ≤ 8
-      few = omega (arith, same-side, side-most p (small .0) (small .1))
+      few = omega (arith, same-side, side-most p small)
 
       square-most : side * side ≤ 64
       square-most = mul-le-mul few few
@@ -66,7 +70,7 @@ module _ (p : ProbePair) (table : List ℕ) (refusal : ℕ)
       module _ (sheet : List ℕ) (left-is : sheet ≡ sheet-left p table (replicate 256 0) (replicate 2400 0) (replicate 64 0)) where
         counts-long : length (counts table p) ≡ side * side
         unfolding counts
-        counts-long = tabulate-long _ _ ∙ squared p ∙ rw same-side
+        counts-long = tabulate-long _ _ ∙ squared (value-width p) ∙ rw same-side
 
         -- the counts stand in front
         counts-lent : take (side * side) sheet ≡ counts table p

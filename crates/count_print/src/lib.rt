@@ -1,6 +1,5 @@
 // The count print: what the program answers to a probe sheet.
 ghost use mathlib.Core.Path.{_≡_};
-ghost use Prim.Native.Nat.{max};
 ghost use lib.ListN.{length};
 ghost use Rattle.buffers.specs.Written.{in-front};
 ghost use Rattle.count_print.specs.Print.{print as Print·print, reply as Print·reply, pair-read};
@@ -48,13 +47,7 @@ fn reply(pair: ProbePair, table: &[u8], output: &mut [u8; 1024]) -> usize
     if refusal != 0 {
         return log_print::put_refusal(output, refusal);
     }
-    let side = bits::power(larger(pair.n, pair.m)) as usize;
+    let side = bits::power(count_sheet::larger(pair.n, pair.m)) as usize;
     let size = side * side;
     log_print::put_counts(output, &sheet[..size], side)
-}
-
-fn larger(one: u32, other: u32) -> u32
-    ensures { λ r. ⌜ r ≡ max one other ⌝ }
-{
-    if one < other { other } else { one }
 }

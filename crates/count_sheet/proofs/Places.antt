@@ -2,18 +2,22 @@
 use mathlib.Core.Path.{_≡_, ap, _∙_}
 use mathlib.Core.List.{List}
 use Prim.Native.Nat.{ℕ, max, _+_, _*_, _-_, _^_, _≤_, _<_}
-use native.Mathlib.Nat.{mul-le-mul}
+use native.Mathlib.Nat.{two-mul, mul-le-mul}
 use native.Mathlib.Omega.{arith}
 use mir.Syntax.{w64}
 use mir.Val.{Fits}
 use lib.ListN.{getD}
-use lib.Pow.{le-ones}
+use lib.Pow.{pow-add, le-ones}
 use Rattle.table.specs.Balanced.{at}
 use Rattle.lookup.specs.Entry.{value-of}
 use Rattle.secrecy.specs.Count.{value-at}
 use Rattle.count_sheet.specs.declared.ProbePair.{ProbePair}
 use Rattle.count_sheet.specs.Refusals.{value-width}
 use Rattle.count_sheet.specs.Runs.{place-of}
+
+-- a sheet has as many counts as its side squared
+pub squared : (k : ℕ) → 2 ^ (2 * k) ≡ 2 ^ k * 2 ^ k
+squared k = ap (λ w. 2 ^ w) (two-mul k) ∙ pow-add 2 k k
 
 pub length-told : (n m k size : ℕ) → k ≡ max n m → size ≡ 2 ^ (2 * k) → size ≡ 2 ^ (2 * max n m)
 length-told n m k size e f = f ∙ ap (λ w. 2 ^ (2 * w)) e

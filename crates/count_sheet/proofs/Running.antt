@@ -8,7 +8,7 @@ use native.Mathlib.Omega.{arith}
 use mir.Syntax.{w32, w64}
 use mir.Val.{Fits}
 use lib.ListN.{length, getD, drop, set, replicate, drop-of-length-le, length-replicate}
-use lib.Pow.{pow-add, pow-mono}
+use lib.Pow.{pow-mono}
 use Rattle.buffers.specs.Written.{in-front}
 use Rattle.counting.proofs.Numbered.{numbered-within}
 use Rattle.table.specs.Balanced.{at}
@@ -26,15 +26,14 @@ use Rattle.secrecy.proofs.Lent.{choice-taken}
 use Rattle.count_sheet.specs.declared.ProbePair.{ProbePair}
 use Rattle.count_sheet.specs.Refusals.{value-width}
 use Rattle.count_sheet.specs.Runs.{Countable, numbered-case, place-of, one-more}
+use Rattle.count_sheet.proofs.Places.{squared}
 
 -- two digits to the base 2^k are below its square
 pub place-below : (k u v : ℕ) → u < 2 ^ k → v < 2 ^ k → u * 2 ^ k + v < 2 ^ (2 * k)
 place-below k u v h l =
     let side = 2 ^ k in
-    let twice : 2 * k ≡ k + k = omega arith in
-    let square : 2 ^ (2 * k) ≡ side * side = ap (λ w. 2 ^ w) twice ∙ pow-add 2 k k in
     let rows : suc u * side ≤ side * side = mul-le-mul-right side h in
-    rw square (omega (arith, rows, suc-mul u side))
+    rw (squared k) (omega (arith, rows, suc-mul u side))
 
 module _ (p : ProbePair) (table : List ℕ) (t : Countable p table) (number : ℕ) where
   pub case-taken : Taken (numbered-case p number) table

@@ -88,7 +88,8 @@ fn sheet_length(n: u32, m: u32) -> usize
     bits::power(2 * larger(n, m)) as usize
 }
 
-fn larger(n: u32, m: u32) -> u32
+// k. It is for the print too.
+pub fn larger(n: u32, m: u32) -> u32
     ensures { λ r. ⌜ r ≡ max n m ⌝ }
 {
     if n < m { m } else { n }
