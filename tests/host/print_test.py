@@ -45,7 +45,7 @@ class Program(NamedTuple):
 # counting takes the model long, and the same sheets come again
 PROGRAMS = {
     "bench": Program(model.bench, sheets, 305, 20000, "case sheet", (12, 11), 2313, 1321),
-    "counts": Program(functools.cache(counts.counts), count_sheets, 4, 2000, "probe sheet", (16, 15), 8, 1305),
+    "counts": Program(functools.cache(counts.counts), count_sheets, 308, 2000, "probe sheet", (16, 15), 8, 1305),
 }
 LONGEST_RUN = 20  # seconds
 LONGEST_SILENCE = 5  # seconds at a terminal, until typing begins all the same

@@ -2,7 +2,7 @@
 # and what it should say.
 import counts
 import model
-from count_sheets import P12, P12_PAIR, probe_sheet
+from count_sheets import P12_PAIR, SAMPLE, probe_sheet
 from counts import ProbePair
 from document import KINDS, TABLE_A
 
@@ -160,8 +160,8 @@ def accepted():
 
 # The print's form: a line of 2^k counts for each u, a refusal, or 1.
 def prints():
-    yield "P12 as input", P12, b"   2   1   1   0   0  21\n   1\n   0\n"
-    yield "P12 printed", counts.counts(P12), b"       8       8\n       8       8\n"
+    yield "P12 as input", SAMPLE, b"   2   1   1   0   0  21\n   1\n   0\n"
+    yield "P12 printed", counts.counts(SAMPLE), b"       8       8\n       8       8\n"
     for pair, table in ((ProbePair(2, 2, 1, 3, 1, 3), [0, 1, 1, 0]), (ProbePair(3, 3, 3, 0, 71, 71), TABLES[3, 3])):
         sheet, size = sheet_of(pair, table), 2**pair.n
         lines = [b"".join(b"%8d" % count for count in sheet[at : at + size]) for at in range(0, size * size, size)]

@@ -4,10 +4,10 @@ import random
 from counts import ProbePair
 from document import TABLE_A
 from model import log_length
-from sheets import balanced_table, damaged, sheet as probe_sheet
+from sheets import balanced_table, damaged, mutated_text, sheet as probe_sheet
 
 P12_PAIR = ProbePair(method=2, n=1, m=1, secret=0, first=0, second=21)
-P12 = probe_sheet(P12_PAIR, [1, 0])
+SAMPLE = probe_sheet(P12_PAIR, [1, 0])
 PAIR = ProbePair(method=3, n=2, m=2, secret=3, first=16, second=45)
 
 
@@ -45,9 +45,10 @@ def too_wide(chance):
             yield probe_sheet(ProbePair(method, n, m, secret, first, 9), balanced_table(chance, n, m))
 
 
-def all_texts():
+# The sheets of the gate's test program and of the linked program's test.
+def all_sheets():
     chance = random.Random(11)
-    yield from (P12, probe_sheet(P12_PAIR._replace(secret=1), [1, 0]), probe_sheet(PAIR, TABLE_A), b"", probe_sheet(PAIR, []))
+    yield from (SAMPLE, probe_sheet(P12_PAIR._replace(secret=1), [1, 0]), probe_sheet(PAIR, TABLE_A), b"", probe_sheet(PAIR, []))
     for method in (2, 3):
         for n in range(1, 4):
             for m in range(1, n + 1):
@@ -55,7 +56,12 @@ def all_texts():
     yield probe_sheet(ProbePair(3, 3, 3, 1, 71, 71), balanced_table(chance, 3, 3))
     yield from refused()
     yield from too_wide(chance)
-    yield from damaged(P12)
+    yield from damaged(SAMPLE)
     yield from damaged(probe_sheet(PAIR, TABLE_A))
     full = probe_sheet(PAIR._replace(n=8), balanced_table(chance, 8, 2))
     yield from (full, full + b"   0\n", full[:-1], full + full)
+
+
+# Widths that the model counts soon.
+def mutated(chance):
+    return mutated_text(chance, accepted_sheet(chance, chance.choice((2, 3)), *chance.choice(((1, 1), (2, 1), (2, 2)))))

@@ -115,9 +115,13 @@ def all_sheets():
     yield full + full
 
 
-# A sheet with a few bytes changed, put in, taken out or doubled; or bytes that were never a sheet.
 def mutated(chance):
-    text = bytearray(accepted_sheet(chance, chance.choice((2, 3)), *chance.choice(((1, 1), (2, 1), (2, 2), (3, 2)))))
+    return mutated_text(chance, accepted_sheet(chance, chance.choice((2, 3)), *chance.choice(((1, 1), (2, 1), (2, 2), (3, 2)))))
+
+
+# A sheet with a few bytes changed, put in, taken out or doubled; or bytes that were never a sheet.
+def mutated_text(chance, sheet):
+    text = bytearray(sheet)
     kind = chance.randrange(10)
     if kind == 0:
         return bytes(chance.choice(b" 0123456789\n\r\t-a") for _ in range(chance.randrange(120)))

@@ -42,11 +42,11 @@ def made_files():
         **program_files("test_frames", frame_records),
         **program_files("test_count_sheets", count_cases),
         **print_files("test_case_sheets", list(sheets.all_sheets()), model.bench),
-        **print_files("test_count_prints", list(count_sheets.all_texts()), counts.counts),
+        **print_files("test_count_prints", list(count_sheets.all_sheets()), counts.counts),
         "bench/stdin": document.SAMPLE_INPUT,
         "bench/stdout": model.bench(document.SAMPLE_INPUT),
-        "counts/stdin": count_sheets.P12,
-        "counts/stdout": counts.counts(count_sheets.P12),
+        "counts/stdin": count_sheets.SAMPLE,
+        "counts/stdout": counts.counts(count_sheets.SAMPLE),
         "sbox_print/stdout": sbox.printed(),
     }
 
