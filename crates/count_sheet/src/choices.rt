@@ -38,7 +38,7 @@ pub fn count_all(
     }
 }
 
-// Runs one choice's case, on scratch that is cleared, and counts the values that it shows.
+// Makes the logged call of one choice, on scratch that is cleared, and counts the values that its log shows.
 fn count(
     pair: ProbePair,
     number: u32,
@@ -57,7 +57,7 @@ fn count(
 {
     let case = numbered_case(pair, number);
     buffers::clear(scratch);
-    methods::run_logged(case, table, scratch, log);
+    calls::logged(case, table, scratch, log);
     let place = place_of(pair, log);
     sheet[place] += 1;
 }
