@@ -1,2 +1,2 @@
--- Case sheets: the form of the program's input.
+-- Case sheets: the form of the programs' input.
 pub mod Sheet

@@ -38,8 +38,8 @@ pub fn read(input: &[u8], table: &mut [u8; 256]) -> Sheet
     accepted(&numbers, lines.entries)
 }
 
-// Reads the whole sheet, with a field on its case line for each of the numbers; so that their columns can be counted there are few, and it
-// has a `requires`. What the fields and the table's lines hold stands in front in the numbers and in the table, up to the first that is
+// Reads the whole sheet, with a field on its case line for each of the numbers. These are few, so that the line's length fits: hence the
+// `requires`. What the fields and the table's lines hold stands in front in the numbers and in the table, up to the first that is
 // malformed; the rest of both is unchanged.
 pub fn read_numbers(input: &[u8], numbers: &mut [u8], table: &mut [u8; 256]) -> Lines
     requires { ⌜ length (now numbers) ≤ 256 ⌝ }

@@ -22,8 +22,8 @@ pair-read numbers =
       second = getD numbers 5 0;
     }
 
--- 256 bytes of scratch, 2400 entries of a log and 64 of a sheet are lent, long enough for any accepted case: 13, 14 and 17 are never printed
--- (`Lent-enough`)
+-- 256 bytes of scratch and 2400 entries of a log are lent, enough for any table that is let in, and 64 of a sheet, enough for n and m up to 3:
+-- 13, 14 and 17 are never printed (`Lent-enough`)
 unfoldable pub print-refusal : ProbePair → (table : List ℕ) → ℕ
 print-refusal p table = count-refusal p table (replicate 256 0) (replicate 2400 0) (replicate 64 0)
 

@@ -9,7 +9,7 @@ use Rattle.count_sheet.specs.declared.ProbePair.{ProbePair}
 use Rattle.count_sheet.specs.Refusals.{pair-checks}
 use Rattle.count_print.specs.Print.{print-refusal}
 
--- what is lent is long enough: a refusal that is printed is 2 to 7, 10, 15 or 16
+-- what is lent is long enough: of a well-formed sheet, a refusal that is printed is 2 to 7, 10, 15 or 16
 unfoldable pub Lent-enough : Type 0
 Lent-enough =
     (table : List ℕ) (p : ProbePair) → print-refusal p table

@@ -35,7 +35,7 @@ fn pair_from(numbers: &[u8]) -> ProbePair
     }
 }
 
-// The answer to a case. Scratch, log, sheet and output are long enough for any.
+// The answer to a pair. Scratch and log are long enough for any table that is let in, sheet and output for n and m up to 3.
 fn reply(pair: ProbePair, table: &[u8], output: &mut [u8; 1024]) -> usize
     ensures { λ r. ⌜ r ≡ length (Print·reply pair (now (table .entry))) ⌝ }
     ensures { λ _. ⌜ now (output .exit) ≡ in-front (Print·reply pair (now (table .entry))) (now (output .entry)) ⌝ }

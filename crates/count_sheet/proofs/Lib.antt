@@ -6,4 +6,4 @@ pub mod Running
 pub mod Tallying
 pub mod Leaving
 pub mod Promises
-pub mod P12
+pub mod Worked

@@ -1,10 +1,11 @@
 -- What is promised of the count sheet holds.
 use mathlib.Core.Path.{_≡_, refl, sym, ap, fun-ext, _∙_}
+use mathlib.Core.Bool.{true}
 use mathlib.Core.List.{List}
 use Prim.Native.Nat.{ℕ, max, _+_, _*_, _/_, _%_, _^_, _<_}
 use native.Mathlib.Nat.{mul-one}
 use borrow.Author.Tests.{lt-leb}
-use lib.ListN.{length, take, drop, replicate, length-replicate}
+use lib.ListN.{take, drop, replicate, length-replicate}
 use lib.Pow.{high, low}
 use Rattle.refusals.specs.Left.{left}
 use Rattle.refusals.proofs.Left.{left-alike}
@@ -28,10 +29,18 @@ use Rattle.count_sheet.specs.declared.ProbePair.{ProbePair}
 use Rattle.count_sheet.specs.Refusals.{value-width, pair-checks, buffer-checks, sheet-checks, count-refusal}
 use Rattle.count_sheet.specs.Sheet.{count-for, counts, sheet-left, scratch-left, log-left}
 use Rattle.count_sheet.specs.Runs.{Countable, numbered-case, place-of}
-use Rattle.count_sheet.specs.Promises.{Entry-right, Sum-right, with-secret, Secrets-alike, Zeros-left, Rest-kept}
-use Rattle.count_sheet.proofs.Checking.{accepted}
+use Rattle.count_sheet.specs.Promises.{Nothing-else-refused, Entry-right, Entry-small, Sum-right, with-secret, Secrets-alike, Zeros-left, Rest-kept}
+use Rattle.count_sheet.proofs.Checking.{at-pair, at-buffers, at-sheet, sheet-refused, accepted}
 use Rattle.count_sheet.proofs.Running.{place-below, place-within}
-use Rattle.count_sheet.proofs.Tallying.{counted-at, count-is}
+use Rattle.count_sheet.proofs.Tallying.{counted-at, count-is, count-most}
+
+pub nothing-else-refused : Nothing-else-refused
+unfolding Nothing-else-refused value-width
+nothing-else-refused table scratch log sheet p t bytes entries size =
+    sym
+    (sheet-refused p table scratch log sheet 0 (at-pair p table true (sym (t .method)) 0 refl (sym (t .table)) refl (2 ^ p .n) refl (t .secret)) refl
+    0 0 (at-buffers p scratch log _ refl bytes _ refl entries) refl
+    (at-sheet p sheet (t .input) (t .output) _ refl (t .first) (t .second) _ refl size))
 
 -- an entry of an accepted count, by its two digits
 module _ (table scratch log sheet : List ℕ) (p : ProbePair) (e : count-refusal p table scratch log sheet ≡ 0) where
@@ -48,6 +57,12 @@ unfolding Entry-right count-for
 entry-right table scratch log sheet p u v e hu hv =
     let k = value-width p in
     entry-is table scratch log sheet p e (u * 2 ^ k + v) (place-below k u v hu hv) ∙ rw (high u k hv, low u k hv)
+
+pub entry-small : Entry-small
+unfolding Entry-small
+entry-small table scratch log sheet p i e h =
+    let t : Countable p table = accepted p table scratch log sheet e .countable in
+    rw (entry-is table scratch log sheet p e i h) (count-most p table t i)
 
 -- the entries together, of a countable pair: each choice is counted in one of them
 all-counted : (table scratch log sheet : List ℕ) (p : ProbePair) → count-refusal p table scratch log sheet ≡ 0

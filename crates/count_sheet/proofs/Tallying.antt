@@ -91,6 +91,11 @@ module _ (p : ProbePair) (table : List ℕ) where
         over-numbered (mask-widths (p .method) (p .n) (p .m)) _
         ∙ sum-ext _ (λ k _. shown-at p (log-of (numbered-case p k) table) e (value-within p table t k (p .second)))
 
+    pub count-most : (e : ℕ) → count-for table p (e / 2 ^ value-width p) (e % 2 ^ value-width p) ≤ 65536
+    count-most e =
+        let most = sum-most (2 ^ total (mask-widths (p .method) (p .n) (p .m))) 1 (λ k. at-most-one (eqb (place-of p (log-of (numbered-case p k) table)) e)) in
+        omega (arith, count-is e, most, few-choices)
+
   -- nothing is counted yet
   pub tallied-begins : (choices bits : ℕ) (widths scratch log sheet : List ℕ) → Countable p table
       → widths ≡ map (class-width (p .n) (p .m)) (method-of (p .method) .mask-classes) → bits ≡ total widths → choices ≡ 2 ^ bits

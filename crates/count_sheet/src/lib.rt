@@ -88,7 +88,7 @@ fn sheet_length(n: u32, m: u32) -> usize
     bits::power(2 * larger(n, m)) as usize
 }
 
-// k. It is for the print too.
+// k, `value-width` of the definitions. It is for the print too.
 pub fn larger(n: u32, m: u32) -> u32
     ensures { λ r. ⌜ r ≡ max n m ⌝ }
 {

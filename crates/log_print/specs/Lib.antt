@@ -1,2 +1,2 @@
--- The print of a log.
+-- Printed lines: of a log, of a refusal, of a count sheet.
 pub mod Lines
