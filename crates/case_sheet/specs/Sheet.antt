@@ -1,5 +1,5 @@
--- A case sheet: a case line of so many fields, ten for the bench and six for the counts, then at most 256 lines of one field, a table entry. A field's number is at
--- most 255, and each line is ended by a line feed (10).
+-- A case sheet: a case line of so many fields, ten for the bench and six for the counts, then at most 256 lines of one field, a table entry.
+-- A field's number is at most 255, and each line is ended by a line feed (10).
 use mathlib.Core.Bool.{Bool, true, false, _&&_, not, cond}
 use mathlib.Core.List.{List, [], _∷_}
 use Prim.Native.Nat.{ℕ, zero, suc, _+_, _*_}
