@@ -28,13 +28,14 @@ import model
 import sheets
 
 
-# What is asked of a program: its answer to a text; the module of its sheets, whose first two are legal, and how many these are; how many
-# mutated ones are tried; what it waits for. And what its wrong programs change: a refusal, into which other; the last line of its longest
+# What is asked of a program: its answer to a text; the module of its sheets, whose first two are legal, and how many these are; the example
+# that is its sample; how many mutated sheets are tried; what it waits for. And what its wrong programs change: a refusal, into which other; the last line of its longest
 # print; how long the longest legal sheet is.
 class Program(NamedTuple):
     answer: Callable[[bytes], bytes]
     sheets: ModuleType
     sheet_count: int
+    example: str
     mutated_count: int
     waits_for: str
     refusal: tuple[int, int]
@@ -44,9 +45,10 @@ class Program(NamedTuple):
 
 # counting takes the model long, and the same sheets come again
 PROGRAMS = {
-    "bench": Program(model.bench, sheets, 305, 20000, "case sheet", (12, 11), 2313, 1321),
-    "counts": Program(functools.cache(counts.counts), count_sheets, 308, 2000, "probe sheet", (16, 15), 8, 1305),
+    "bench": Program(model.bench, sheets, 305, "p1.sheet", 20000, "case sheet", (12, 11), 2313, 1321),
+    "counts": Program(functools.cache(counts.counts), count_sheets, 308, "p12.counts", 2000, "probe sheet", (16, 15), 8, 1305),
 }
+EXAMPLES = Path(__file__).resolve().parents[2] / "examples"
 LONGEST_RUN = 20  # seconds
 LONGEST_SILENCE = 5  # seconds at a terminal, until typing begins all the same
 
@@ -161,6 +163,8 @@ def compare(program, way, command, limit=None):
 
 
 def test(program, file):
+    if (EXAMPLES / program.example).read_bytes() != program.sheets.SAMPLE:
+        yield f"examples/{program.example} is not the sample"
     for way, (_, _, count) in WAYS.items():
         compared, differing = compare(program, way, [file])
         print(f"{way}: {compared} inputs, {len(differing)} differ")

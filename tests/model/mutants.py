@@ -304,7 +304,7 @@ def complaints(module, edits):
     texts = dict(definitions(module, edits))
     if any(True for _ in check.differences(module.__name__)):
         yield "the module itself differs"
-    yield from (f"{name} has no edits" for name in texts if name not in edits)
+    yield from (f"{name} has no edits" for name in texts if not edits.get(name))
     for name, pieces in edits.items():
         for old, new in pieces:
             if not noticed(module, name, edited(texts[name], old, new)):
@@ -312,8 +312,9 @@ def complaints(module, edits):
 
 
 def main():
-    found = []
-    for module, edits in ((model, MODEL), (counts, COUNTS), (sbox, SBOX), (screening, SCREENING), (frame, FRAME)):
+    modules = ((model, MODEL), (counts, COUNTS), (sbox, SBOX), (screening, SCREENING), (frame, FRAME))
+    found = [] if [module.__name__ for module, _ in modules] == list(check.PARTS) else ["other modules are checked than are edited"]
+    for module, edits in modules:
         found += [f"{module.__name__}: {complaint}" for complaint in complaints(module, edits)]
         print(f"{sum(map(len, edits.values()))} edits of {module.__name__}.py")
     for complaint in found:

@@ -75,7 +75,7 @@ def picture():
     yield f"<desc>{escape(' '.join(caption()))}</desc>"
     yield f'<rect width="{WIDTH}" height="{HEIGHT}" fill="white"/>'
     yield text(WIDTH // 2, 38, "Why a table must be balanced", 26, more=' font-weight="bold"')
-    yield text(WIDTH // 2, 64, "method 2, n = 2, m = 1: positions 13 and 33 of the log")
+    yield text(WIDTH // 2, 64, f"method 2, n = 2, m = 1: positions {FIRST} and {SECOND} of the log")
     yield from drawn_pair(112, f"balanced: table {', '.join(map(str, BALANCED))}", BALANCED)
     yield from drawn_pair(418, f"not balanced, refused with 7: table {', '.join(map(str, REFUSED))}", REFUSED)
     for line, words in enumerate(caption()):
@@ -106,12 +106,19 @@ def unnoticed_changes():
                 yield f"change {number}"
 
 
+# What it is to show: equal sheets above, and below 96 against 32 of 256 choices for the values 0 and 0.
+def shows_it():
+    above, below = ([sheet(table, secret) for secret in SECRETS] for table in (BALANCED, REFUSED))
+    return above[0] == above[1] and [s[0][0] for s in below] == [96, 32] and all(sum(map(sum, s)) == 256 for s in above + below)
+
+
 def main():
     if sys.argv[1:] != ["--check"]:
         PICTURE.parent.mkdir(exist_ok=True)
         PICTURE.write_bytes(made())
         return
     complaints = [f"a change goes unnoticed: {change}" for change in unnoticed_changes()]
+    complaints += [] if shows_it() else ["other counts are shown than are to be"]
     complaints += [] if is_made(PICTURE) else ["docs/pictures/balanced.svg is not as the model makes it"]
     print(*complaints, f"1 picture, {len(complaints)} complaints", sep="\n")
     sys.exit(1 if complaints else 0)

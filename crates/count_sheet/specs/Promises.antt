@@ -78,7 +78,7 @@ worked method x i j =
 
 -- P12 of the bench sheet: under method 2, positions 0 and 21 show each of the four pairs for 8 of 32 choices, for both secrets
 unfoldable pub P12-right : Type 0
-P12-right = (worked 2 0 0 21 ≡ 8 ∷ 8 ∷ 8 ∷ 8 ∷ 7 ∷ []) × (worked 2 1 0 21 ≡ 8 ∷ 8 ∷ 8 ∷ 8 ∷ 7 ∷ [])
+P12-right = (x : ℕ) → x < 2 → worked 2 x 0 21 ≡ 8 ∷ 8 ∷ 8 ∷ 8 ∷ 7 ∷ []
 
 -- a turn's number, which is 0, beside x0, and x0 beside it; under method 3, b beside 1 - b
 unfoldable pub Worked-right : Type 0

@@ -20,6 +20,11 @@ none-of-list : choice-of [] ≡ (λ i. 0)
 unfolding choice-of
 none-of-list = refl
 
+-- a number's lowest bits and those above them
+numbered-block : (w : ℕ) (ws : List ℕ) (k r : ℕ) → r < 2 ^ w → choice-of (numbered (w ∷ ws) (k * 2 ^ w + r)) ≡ r ▸ choice-of (numbered ws k)
+unfolding numbered
+numbered-block w ws k r h = rw (low k w h, high k w h) (first-of-list r (numbered ws k))
+
 pub numbered-long : (ws : List ℕ) (k : ℕ) → length (numbered ws k) ≡ length ws
 unfolding numbered
 numbered-long [] k = refl
@@ -37,11 +42,6 @@ pub numbered-append : (ws vs : List ℕ) (k : ℕ) → numbered (ws ++ vs) k ≡
 unfolding numbered total
 numbered-append [] vs k = ap (numbered vs) (sym (div-one k))
 numbered-append (w ∷ ws) vs k = ap (λ l. k % 2 ^ w ∷ l) (numbered-append ws vs (k / 2 ^ w) ∙ ap (λ q. numbered ws (k / 2 ^ w) ++ numbered vs q) (shr-shr k w (total ws)))
-
--- a number's lowest bits and those above them
-numbered-block : (w : ℕ) (ws : List ℕ) (k r : ℕ) → r < 2 ^ w → choice-of (numbered (w ∷ ws) (k * 2 ^ w + r)) ≡ r ▸ choice-of (numbered ws k)
-unfolding numbered
-numbered-block w ws k r h = rw (low k w h, high k w h) (first-of-list r (numbered ws k))
 
 pub over-numbered : (ws : List ℕ) (f : (ℕ → ℕ) → ℕ) → over ws f ≡ sum (2 ^ total ws) (λ k. f (choice-of (numbered ws k)))
 unfolding over total sum numbered
