@@ -95,7 +95,8 @@ module _ (p : ProbePair) (table : List ℕ) (t : Countable p table) (number : �
         (numbered-within (mask-widths (p .method) (p .n) (p .m)) number) (le-of-eq (sym long)) clean (le-of-eq (sym l)))
 
     -- the log that it leaves is the defined one
-    module _ (before scratch log after : List ℕ) (b : length before ≡ scratch-length (p .method) (p .n)) (zeros : scratch ≡ replicate (length before) 0)
+    module _ (before scratch log after : List ℕ) (b : length before ≡ scratch-length (p .method) (p .n))
+        (zeros : scratch ≡ replicate (length before) 0)
         (h : length log ≡ log-length (p .method) (p .n)) (w : after ≡ logged-log case table scratch log) where
       pub log-is : after ≡ log-of (numbered-case p number) table
       unfolding logged-log left in-front

@@ -21,7 +21,8 @@ pub struct ProbePair {
 }
 
 // Runs every choice of masks, and counts the values at both positions: with k the larger of n and m, the count for u and v goes to
-// u * 2^k + v of the sheet. The runs' scratch and log are zero afterwards. Returns the refusal.
+// u * 2^k + v of the sheet. The runs' scratch and log are zero afterwards. Returns the refusal. It takes the secret itself, so it is for the
+// bench alone.
 pub fn count_sheet(
     pair: ProbePair,
     table: &[u8],

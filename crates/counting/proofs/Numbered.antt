@@ -3,7 +3,6 @@ use mathlib.Core.Path.{_≡_, refl, sym, ap, fun-ext, _∙_}
 use mathlib.Core.List.{List, [], _∷_, _++_}
 use Prim.Native.Nat.{ℕ, zero, suc, _+_, _*_, _/_, _%_, _^_, _<_}
 use native.Mathlib.Nat.{zero-add, mod-lt, mul-comm, div-one}
-use lib.ListN.{length}
 use lib.Pow.{pow-pos, pow-add, shr-shr, high, low}
 use Rattle.counting.specs.Sum.{sum}
 use Rattle.counting.specs.Choice.{_▸_, over, Within, total}
@@ -25,11 +24,6 @@ numbered-block : (w : ℕ) (ws : List ℕ) (k r : ℕ) → r < 2 ^ w → choice-
 unfolding numbered
 numbered-block w ws k r h = rw (low k w h, high k w h) (first-of-list r (numbered ws k))
 
-pub numbered-long : (ws : List ℕ) (k : ℕ) → length (numbered ws k) ≡ length ws
-unfolding numbered
-numbered-long [] k = refl
-numbered-long (w ∷ ws) k = ap suc (numbered-long ws (k / 2 ^ w))
-
 -- the masks of a number are within their widths
 pub numbered-within : (ws : List ℕ) (k : ℕ) → Within ws (choice-of (numbered ws k))
 unfolding numbered
@@ -41,7 +35,10 @@ numbered-within (w ∷ ws) k =
 pub numbered-append : (ws vs : List ℕ) (k : ℕ) → numbered (ws ++ vs) k ≡ numbered ws k ++ numbered vs (k / 2 ^ total ws)
 unfolding numbered total
 numbered-append [] vs k = ap (numbered vs) (sym (div-one k))
-numbered-append (w ∷ ws) vs k = ap (λ l. k % 2 ^ w ∷ l) (numbered-append ws vs (k / 2 ^ w) ∙ ap (λ q. numbered ws (k / 2 ^ w) ++ numbered vs q) (shr-shr k w (total ws)))
+numbered-append (w ∷ ws) vs k =
+    ap (λ l. k % 2 ^ w ∷ l)
+    (numbered-append ws vs (k / 2 ^ w)
+    ∙ ap (λ q. numbered ws (k / 2 ^ w) ++ numbered vs q) (shr-shr k w (total ws)))
 
 pub over-numbered : (ws : List ℕ) (f : (ℕ → ℕ) → ℕ) → over ws f ≡ sum (2 ^ total ws) (λ k. f (choice-of (numbered ws k)))
 unfolding over total sum numbered

@@ -7,4 +7,5 @@ use Rattle.count_sheet.proofs.checks.refused_pair.Tie as tie
 pub refused-pair-spec : {M : Type 1} → statement M
 refused-pair-spec =
     tie.close
-    (tie.spec (λ c κs. search needs) (λ c. search at-2) (λ c κs. search needs) (λ c. search at-table) (λ c κs. search pair-input) (λ c. search at-10) (λ c. search at-pair))
+    (tie.spec (λ c κs. search needs) (λ c. search at-2) (λ c κs. search needs) (λ c. search at-table) (λ c κs. search pair-input)
+    (λ c. search at-10) (λ c. search at-pair))

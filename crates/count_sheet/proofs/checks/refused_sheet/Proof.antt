@@ -7,4 +7,5 @@ use Rattle.count_sheet.proofs.checks.refused_sheet.Tie as tie
 pub refused-sheet-spec : {M : Type 1} → statement M
 refused-sheet-spec =
     tie.close
-    (tie.spec (λ c. search at-15-n) (λ c. search at-15-m) (λ c κs. search needs) (λ c. search needs) (λ c. search at-16-first) (λ c. search needs) (λ c. search at-16-second) (λ c κs. search needs) (λ c. search at-17) (λ c. search at-sheet))
+    (tie.spec (λ c. search at-15-n) (λ c. search at-15-m) (λ c κs. search needs) (λ c. search needs) (λ c. search at-16-first)
+    (λ c. search needs) (λ c. search at-16-second) (λ c κs. search needs) (λ c. search at-17) (λ c. search at-sheet))

@@ -7,4 +7,6 @@ use Rattle.count_sheet.proofs.choices.place_of.Tie as tie
 pub place-of-spec : {M : Type 1} → statement M
 place-of-spec =
     tie.close
-    (tie.spec (λ c κs. search needs) (λ c κs. search width-told) (λ c. search needs) (λ c. search needs) (λ c. search needs) (λ c κs. search needs) (λ c. search needs) (λ c. search needs) (λ c. search needs) (λ c κs. search needs) (λ c κs. search needs) (λ c. search place-told))
+    (tie.spec (λ c κs. search needs) (λ c κs. search width-told) (λ c. search needs) (λ c. search needs) (λ c. search needs)
+    (λ c κs. search needs) (λ c. search needs) (λ c. search needs) (λ c. search needs) (λ c κs. search needs) (λ c κs. search needs)
+    (λ c. search place-told))
