@@ -1,11 +1,11 @@
-// The refusals of the logged and the plain call, each list of checks in its order.
+// The refusals of the logged and the plain call, each list of checks in its order, in the parts that a chain takes one by one.
 ghost use mathlib.Core.Path.{_≡_};
 ghost use mathlib.Core.Bool.{cond};
 ghost use Prim.Native.Nat.{_≤_};
 ghost use lib.Dec.{leb};
 ghost use lib.ListN.{length};
 ghost use Rattle.refusals.specs.Checks.{first-of};
-ghost use Rattle.lookup.specs.Refusals.{mask-checks, scratch-checks, dirty as Refusals·dirty};
+ghost use Rattle.lookup.specs.Refusals.{mask-checks, scratch-checks, box-checks, other-checks, dirty as Refusals·dirty};
 ghost use Rattle.lookup.specs.Refusals.{case-refusal, plain-refusal, logged-refusal};
 use lookup::Case;
 
@@ -13,14 +13,11 @@ use lookup::Case;
 pub fn refused_logged(case: Case, table: &[u8], scratch: &[u8], log: &[u16]) -> u32
     ensures { λ r. ⌜ r ≡ logged-refusal case (now (table .entry)) (now (scratch .entry)) (now (log .entry)) ⌝ }
 {
-    let refusal = refused_plain(case, table, scratch);
+    let refusal = refused_box(case, table);
     if refusal != 0 {
         return refusal;
     }
-    if log.len() < methods::log_length(case.method, case.n) {
-        return 14;
-    }
-    0
+    refused_other(case, scratch, log)
 }
 
 // 2 to 7, 10 to 13, and 19
@@ -38,14 +35,41 @@ pub fn refused_plain(case: Case, table: &[u8], scratch: &[u8]) -> u32
 fn refused_case(case: Case, table: &[u8]) -> u32
     ensures { λ r. ⌜ r ≡ case-refusal case (now (table .entry)) ⌝ }
 {
-    if !methods::known(case.method) {
-        return 2;
-    }
-    let refusal = table::table_refusal(case.n, case.m, table);
+    let refusal = refused_box(case, table);
     if refusal != 0 {
         return refusal;
     }
     refused_masks(case)
+}
+
+// 2 to 7
+pub fn refused_box(case: Case, table: &[u8]) -> u32
+    ensures { λ r. ⌜ r ≡ first-of (box-checks case (now (table .entry))) ⌝ }
+{
+    if !methods::known(case.method) {
+        return 2;
+    }
+    table::table_refusal(case.n, case.m, table)
+}
+
+// A logged call's other checks: 10 to 13, 19 and 14. The widths have been checked, so it has a `requires`.
+pub fn refused_other(case: Case, scratch: &[u8], log: &[u16]) -> u32
+    requires { ⌜ case .n ≤ 8 ⌝ }
+    requires { ⌜ case .m ≤ 8 ⌝ }
+    ensures { λ r. ⌜ r ≡ first-of (other-checks case (now (scratch .entry)) (now (log .entry))) ⌝ }
+{
+    let of_masks = refused_masks(case);
+    if of_masks != 0 {
+        return of_masks;
+    }
+    let of_scratch = refused_scratch(case, scratch);
+    if of_scratch != 0 {
+        return of_scratch;
+    }
+    if log.len() < methods::log_length(case.method, case.n) {
+        return 14;
+    }
+    0
 }
 
 // 10 to 12. The widths have been checked, so it has a `requires`.

@@ -78,45 +78,50 @@ module _ (c : Case) (table scratch lent : List ℕ) (j : ℕ) (told : j ≡ logg
   unfolding logged-log
   log-kept h = left-refused j _ _ _ told h
 
-  pub logged-answered : (share count : ℕ) → j ≡ 0 → share ≡ answer c table → count ≡ log-length (c .method) (c .n)
-      → record { refusal = j; share = share; count = count } ≡ logged-reply c table scratch lent
+  pub logged-goes : j ≡ 0 → logged-refusal c table scratch lent ≡ 0
+  logged-goes z = sym told ∙ z
+
+-- the run of an accepted logged call
+module _ (c : Case) (table scratch lent : List ℕ) (taken-whole : logged-refusal c table scratch lent ≡ 0) where
+  pub logged-answered : (share count : ℕ) → share ≡ answer c table → count ≡ log-length (c .method) (c .n)
+      → record { refusal = 0; share = share; count = count } ≡ logged-reply c table scratch lent
   unfolding logged-reply
-  logged-answered share count z e f = rw (e, f) (called-accepted j _ _ _ told z)
+  logged-answered share count e f = rw (e, f) (called-accepted 0 _ _ _ (sym taken-whole) refl)
 
-  pub logged-left : (now : List ℕ) → j ≡ 0 → now ≡ scratch-after c table scratch → now ≡ logged-scratch c table scratch lent
+  pub logged-left : (now : List ℕ) → now ≡ scratch-after c table scratch → now ≡ logged-scratch c table scratch lent
   unfolding logged-scratch
-  logged-left now z e = e ∙ left-accepted j _ _ _ told z
+  logged-left now e = e ∙ left-accepted 0 _ _ _ (sym taken-whole) refl
 
-  pub log-left : (now : List ℕ) → j ≡ 0 → now ≡ in-front (log-of c table) lent → now ≡ logged-log c table scratch lent
+  pub log-left : (now : List ℕ) → now ≡ in-front (log-of c table) lent → now ≡ logged-log c table scratch lent
   unfolding logged-log
-  log-left now z e = e ∙ left-accepted j _ _ _ told z
+  log-left now e = e ∙ left-accepted 0 _ _ _ (sym taken-whole) refl
 
   -- an accepted logged call knows what an accepted plain call knows, and that the log is long enough
-  both : j ≡ 0 → (plain-refusal c table scratch ≡ 0) × (first-of (log-checks c lent) ≡ 0)
-  both z = logged-plain c table scratch lent (sym told ∙ z)
+  both : (plain-refusal c table scratch ≡ 0) × (first-of (log-checks c lent) ≡ 0)
+  both = logged-plain c table scratch lent taken-whole
 
-  pub logged-method : j ≡ 0 → known (c .method) ≡ true
-  logged-method z = plain-method c table scratch _ (sym (both z .0)) refl
+  pub logged-method : known (c .method) ≡ true
+  logged-method = plain-method c table scratch _ (sym (both .0)) refl
 
-  pub logged-bounded : j ≡ 0 → Bounded c
-  logged-bounded z = plain-bounded c table scratch _ (sym (both z .0)) refl
+  pub logged-bounded : Bounded c
+  logged-bounded = plain-bounded c table scratch _ (sym (both .0)) refl
 
-  pub logged-width : j ≡ 0 → c .n ≤ 8
-  logged-width z = logged-bounded z .width
+  pub logged-width : c .n ≤ 8
+  logged-width = logged-bounded .width
 
-  pub logged-table : j ≡ 0 → length table ≡ 2 ^ c .n
-  logged-table z = plain-table c table scratch _ (sym (both z .0)) refl
+  pub logged-table : length table ≡ 2 ^ c .n
+  logged-table = plain-table c table scratch _ (sym (both .0)) refl
 
-  pub logged-room : j ≡ 0 → scratch-length (c .method) (c .n) ≤ length scratch
-  logged-room z = plain-room c table scratch _ (sym (both z .0)) refl
+  pub logged-room : scratch-length (c .method) (c .n) ≤ length scratch
+  logged-room = plain-room c table scratch _ (sym (both .0)) refl
 
-  pub log-room : j ≡ 0 → log-length (c .method) (c .n) ≤ length lent
+  pub log-room : log-length (c .method) (c .n) ≤ length lent
   unfolding log-checks
-  log-room z = ltb-false _ _ (passed _ 13 _ (both z .1) .0)
+  log-room = ltb-false _ _ (passed _ 13 _ (both .1) .0)
 
   -- the count fits a u32
-  pub count-fits : (count : ℕ) → j ≡ 0 → count ≡ log-length (c .method) (c .n) → Fits w32 count
+  pub count-fits : (count : ℕ) → count ≡ log-length (c .method) (c .n) → Fits w32 count
   unfolding log-length
-  count-fits count z e =
-      let accepted-case = taken c table scratch _ (sym (both z .0)) refl in
-      record { fits = omega (arith, e, taken-right c table accepted-case .short (2 ^ c .n), logged-bounded z .size) }
+  count-fits count e =
+      let accepted-case = taken c table scratch _ (sym (both .0)) refl in
+      record { fits = omega (arith, e, taken-right c table accepted-case .short (2 ^ c .n), logged-bounded .size) }

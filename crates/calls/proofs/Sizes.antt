@@ -10,7 +10,7 @@ use Rattle.table.specs.Refusals.{table-checks}
 use Rattle.lookup.specs.declared.Case.{Case}
 use Rattle.lookup.specs.Call.{answer}
 use Rattle.lookup.specs.Promises.{Answer-small}
-use Rattle.lookup.specs.Refusals.{method-checks, mask-checks, scratch-checks, case-checks, plain-refusal}
+use Rattle.lookup.specs.Refusals.{method-checks, mask-checks, scratch-checks, box-checks, case-checks, plain-refusal}
 use Rattle.lookup.proofs.Accepted.{accepted}
 use Rattle.lookup.proofs.Refused.{plain-case}
 use Rattle.lookup.proofs.Promises.{answer-small}
@@ -18,7 +18,7 @@ use Rattle.calls.specs.Reply.{called, plain-reply}
 
 module _ (c : Case) (table scratch : List ℕ) where
   number-small : plain-refusal c table scratch ≤ 255
-  unfolding plain-refusal up-to case-checks method-checks table-checks mask-checks scratch-checks
+  unfolding plain-refusal up-to case-checks box-checks method-checks table-checks mask-checks scratch-checks
   number-small = first-most 255 (case-checks c table ++ scratch-checks c scratch) refl
 
   answer-byte : plain-refusal c table scratch ≡ 0 → answer c table < 256

@@ -1,5 +1,6 @@
 // The logged and the plain call: masked table lookup on three shares, under method 2 or 3.
 ghost use mathlib.Core.Path.{_≡_};
+ghost use Rattle.lookup.specs.Refusals.{logged-refusal};
 ghost use Rattle.calls.specs.Reply.{case-from, plain-reply, plain-scratch, logged-reply, logged-scratch, logged-log};
 use lookup::Called;
 use lookup::Case;
@@ -98,10 +99,20 @@ pub fn logged(case: Case, table: &[u8], scratch: &mut [u8], log: &mut [u16]) -> 
             count: 0,
         };
     }
+    run_accepted(case, table, scratch, log)
+}
+
+// The run of a logged call that is accepted. Its caller has made the checks, so it has a `requires`.
+pub fn run_accepted(case: Case, table: &[u8], scratch: &mut [u8], log: &mut [u16]) -> Called
+    requires { ⌜ logged-refusal case (now table) (now scratch) (now log) ≡ 0 ⌝ }
+    ensures { λ r. ⌜ r ≡ logged-reply case (now (table .entry)) (now (scratch .entry)) (now (log .entry)) ⌝ }
+    ensures { λ _. ⌜ now (scratch .exit) ≡ logged-scratch case (now (table .entry)) (now (scratch .entry)) (now (log .entry)) ⌝ }
+    ensures { λ _. ⌜ now (log .exit) ≡ logged-log case (now (table .entry)) (now (scratch .entry)) (now (log .entry)) ⌝ }
+{
     let count = methods::log_length(case.method, case.n);
     let share = methods::run_logged(case, table, scratch, log);
     Called {
-        refusal,
+        refusal: 0,
         share: share as u32,
         count: count as u32,
     }

@@ -16,7 +16,7 @@ use Rattle.lookup.specs.Case.{Q}
 use Rattle.lookup.specs.Method.{Method}
 use Rattle.lookup.specs.Methods.{known, method-of}
 use Rattle.lookup.specs.Bounded.{Bounded}
-use Rattle.lookup.specs.Refusals.{case-refusal, case-checks, method-checks, mask-checks}
+use Rattle.lookup.specs.Refusals.{case-refusal, case-checks, box-checks, method-checks, mask-checks}
 
 pub record Accepted (method : Method) (c : Case) (xs : List ℕ) : Type 0 where
   pub table : Table (c .n) (c .m) xs
@@ -33,7 +33,7 @@ abbrev pub Taken : Case → (table : List ℕ) → Type 0
 Taken c table = (known (c .method) ≡ true) × Accepted (method-of (c .method)) c table
 
 pub accepted : (c : Case) (table : List ℕ) → case-refusal c table ≡ 0 → Taken c table
-unfolding case-refusal case-checks method-checks mask-checks table-refusal
+unfolding case-refusal case-checks box-checks method-checks mask-checks table-refusal
 accepted c table e =
     let method = passed _ 1 _ e in
     let both = passed-both (table-checks (c .n) (c .m) table) _ (table-numbered (c .n) (c .m) table) (method .1) in
@@ -61,7 +61,7 @@ accepted c table e =
 
 -- and nothing else is asked of it
 pub not-refused : (c : Case) (table : List ℕ) → Taken c table → case-refusal c table ≡ 0
-unfolding case-refusal case-checks method-checks mask-checks table-refusal
+unfolding case-refusal case-checks box-checks method-checks mask-checks table-refusal
 not-refused c table taken =
     let k = taken .1 in
     let inputs = one-below _ _ _ (k .x0) (one-below _ _ _ (k .r1) (one-below _ _ _ (k .r2) (one-below _ _ _ (k .r3) (none-below _)))) in

@@ -36,7 +36,9 @@ taken-right c table taken = of-each (c .method) right (taken .0)
 -- under each method the answer is the masked entry of turn r1 ⊕ r2
 pub answer-is : (c : Case) (table : List ℕ) → Taken c table → answer c table ≡ masked c table (c .r1 ⊕ c .r2)
 unfolding answer
-answer-is c table taken = taken-right c table taken .answers c table (taken .1)
+answer-is c table taken =
+    let k = taken .1 in
+    taken-right c table taken .answers c table (k .r1) (k .r2) (k .r3) (k .b)
 
 pub answer-right : Answer-right
 unfolding Answer-right masked

@@ -4,18 +4,20 @@ use mathlib.Core.Bool.{true, false}
 use mathlib.Core.List.{List, _++_, append-assoc}
 use Prim.Native.Nat.{ℕ, _+_, _-_, _≤_}
 use native.Mathlib.Omega.{arith}
-use borrow.Author.Tests.{ltb-false, le-ltb}
+use borrow.Author.Tests.{ltb-false, le-ltb, not-false}
 use lib.ListN.{length, take, replicate, length-replicate, replicate-append-replicate}
 use lib.Seq.{length-take-le, take-at}
 use Rattle.refusals.specs.Checks.{first-of}
 use Rattle.refusals.specs.Tests.{any-from}
 use Rattle.refusals.proofs.Checks.{passed, goes, none-applies, numbered, passed-both, goes-both, none-behind}
 use Rattle.refusals.proofs.Tests.{zeros-none, none-nonzero}
-use Rattle.table.specs.Refusals.{table-checks}
+use Rattle.table.specs.Refusals.{table-checks, table-refusal}
+use Rattle.table.proofs.Refusals.{Table, table-accepted}
 use Rattle.lookup.specs.declared.Case.{Case}
+use Rattle.lookup.specs.Methods.{known}
 use Rattle.lookup.specs.Call.{scratch-length, log-length}
 use Rattle.lookup.specs.Refusals.{method-checks, mask-checks, dirty, scratch-checks, log-checks}
-use Rattle.lookup.specs.Refusals.{case-checks, case-refusal, plain-refusal, logged-refusal}
+use Rattle.lookup.specs.Refusals.{box-checks, other-checks, case-checks, case-refusal, plain-refusal, logged-refusal}
 
 -- zeros are not dirty, whatever stands behind them
 pub zeros-clean : (k : ℕ) (scratch : List ℕ) → take k scratch ≡ replicate k 0 → dirty k scratch ≡ false
@@ -59,14 +61,47 @@ pub log-not-refused : (c : Case) (lent : List ℕ) → log-length (c .method) (c
 unfolding log-checks
 log-not-refused c lent h = sym (goes 14 _ (le-ltb _ _ h) none-applies)
 
+-- each check has its number
+pub masks-numbered : (c : Case) → numbered (mask-checks c) ≡ true
+unfolding numbered mask-checks
+masks-numbered c = refl
+
+pub buffers-numbered : (c : Case) (scratch : List ℕ) → numbered (mask-checks c ++ scratch-checks c scratch) ≡ true
+unfolding numbered mask-checks scratch-checks
+buffers-numbered c scratch = refl
+
+pub other-numbered : (c : Case) (scratch lent : List ℕ) → numbered (other-checks c scratch lent) ≡ true
+unfolding numbered other-checks mask-checks scratch-checks log-checks
+other-numbered c scratch lent = refl
+
+pub masks-passed : (c : Case) (scratch lent : List ℕ) → first-of (other-checks c scratch lent) ≡ 0 → first-of (mask-checks c) ≡ 0
+unfolding other-checks
+masks-passed c scratch lent e =
+    let before = passed-both (mask-checks c ++ scratch-checks c scratch) (log-checks c lent) (buffers-numbered c scratch) e .0 in
+    passed-both (mask-checks c) (scratch-checks c scratch) (masks-numbered c) before .0
+
 module _ (c : Case) (table : List ℕ) where
   pub case-numbered : numbered (case-checks c table) ≡ true
-  unfolding numbered case-checks method-checks table-checks mask-checks
+  unfolding numbered case-checks box-checks method-checks table-checks mask-checks
   case-numbered = refl
+
+  pub box-numbered : numbered (box-checks c table) ≡ true
+  unfolding numbered box-checks method-checks table-checks
+  box-numbered = refl
+
+  pub case-by-parts : first-of (box-checks c table) ≡ 0 → first-of (mask-checks c) ≡ 0 → case-refusal c table ≡ 0
+  unfolding case-refusal case-checks
+  case-by-parts e f = sym (goes-both (box-checks c table) (mask-checks c) box-numbered (sym e) (sym f))
+
+  pub box-accepted : first-of (box-checks c table) ≡ 0 → (known (c .method) ≡ true) × Table (c .n) (c .m) table
+  unfolding box-checks method-checks table-refusal
+  box-accepted e =
+      let method = passed _ 1 _ e in
+      (not-false _ (method .0), table-accepted (c .n) (c .m) table (method .1))
 
   module _ (scratch : List ℕ) where
     pub plain-numbered : numbered (case-checks c table ++ scratch-checks c scratch) ≡ true
-    unfolding numbered case-checks method-checks table-checks mask-checks scratch-checks
+    unfolding numbered case-checks box-checks method-checks table-checks mask-checks scratch-checks
     plain-numbered = refl
 
     pub plain-case : plain-refusal c table scratch ≡ 0 → (case-refusal c table ≡ 0) × (first-of (scratch-checks c scratch) ≡ 0)
@@ -100,3 +135,22 @@ module _ (c : Case) (table : List ℕ) where
     logged-by-rest lent e =
         ap first-of (append-assoc (case-checks c table) (scratch-checks c scratch) (log-checks c lent))
         ∙ sym (goes-both (case-checks c table) (scratch-checks c scratch ++ log-checks c lent) case-numbered (sym e) refl)
+
+    -- the logged call's checks in two parts, 2 to 7 and the others
+    pub logged-parts : (lent : List ℕ) → logged-refusal c table scratch lent ≡ first-of (box-checks c table ++ other-checks c scratch lent)
+    unfolding logged-refusal case-checks other-checks
+    logged-parts lent =
+        let box = box-checks c table in
+        ap first-of
+        (append-assoc (box ++ mask-checks c) (scratch-checks c scratch) (log-checks c lent)
+        ∙ append-assoc box (mask-checks c) (scratch-checks c scratch ++ log-checks c lent)
+        ∙ ap (λ checks. box ++ checks) (sym (append-assoc (mask-checks c) (scratch-checks c scratch) (log-checks c lent))))
+
+    pub parts-passed : (lent : List ℕ) → logged-refusal c table scratch lent ≡ 0
+        → (first-of (box-checks c table) ≡ 0) × (first-of (other-checks c scratch lent) ≡ 0)
+    parts-passed lent e = passed-both (box-checks c table) (other-checks c scratch lent) box-numbered (sym (logged-parts lent) ∙ e)
+
+    pub logged-by-parts : (lent : List ℕ) → first-of (box-checks c table) ≡ 0 → first-of (other-checks c scratch lent) ≡ 0
+        → logged-refusal c table scratch lent ≡ 0
+    logged-by-parts lent e f =
+        logged-parts lent ∙ sym (goes-both (box-checks c table) (other-checks c scratch lent) box-numbered (sym e) (sym f))

@@ -33,7 +33,8 @@ pub value-byte : {method : Method} {c : Case} {table : List ℕ} {a : ℕ} {row 
 value-byte k s = lt-of-lt-of-le (s .value) (pow-mono (max-le (k .table .input-most) (le-trans (k .table .output-most) (k .table .input-most))))
 
 pub record Right (method : Method) : Type 0 where
-  pub answers : (c : Case) (table : List ℕ) → Accepted method c table → method .answer c table ≡ masked c table (c .r1 ⊕ c .r2)
+  pub answers : (c : Case) (table : List ℕ) → c .r1 < Q c → c .r2 < Q c → c .r3 < Q c → c .b ≤ method .b-most
+      → method .answer c table ≡ masked c table (c .r1 ⊕ c .r2)
   pub rest : (c : Case) (table scratch : List ℕ) → Accepted method c table
       → drop (method .scratch-length (Q c)) (method .scratch c table scratch) ≡ drop (method .scratch-length (Q c)) scratch
   pub bit : method .b-most < 2
@@ -106,7 +107,7 @@ module _ (method : Method) (c : Case) (table : List ℕ) (k : Accepted method c 
 right-2 : Right method-2
 right-2 =
     record {
-      answers = λ c table k. answer-2-is c table (k .r1) (k .r2) (k .r3);
+      answers = λ c table h1 h2 h3 hb. answer-2-is c table h1 h2 h3;
       rest = λ c table scratch k. beyond c table (Q c) scratch (r-prime-below c (k .r1) (k .r2) (k .r3)) (le-refl _);
       bit = lit< tt;
       short = λ turns. omega arith;
@@ -119,7 +120,7 @@ right-2 =
 right-3 : Right method-3
 right-3 =
     record {
-      answers = λ c table k. answer-3-is c table (omega (arith, k .b)) (k .r1) (k .r2) (k .r3);
+      answers = λ c table h1 h2 h3 hb. answer-3-is c table (omega (arith, hb)) h1 h2 h3;
       rest = λ c table scratch k. scratch-3-rest c table scratch;
       bit = lit< tt;
       short = λ turns. omega arith;

@@ -39,9 +39,17 @@ scratch-checks c scratch =
 unfoldable pub log-checks : Case → (lent : List ℕ) → List Check
 log-checks c lent = 14 when (ltb (length lent) (log-length (c .method) (c .n))) ∷ []
 
+-- 2 to 7
+unfoldable pub box-checks : Case → (table : List ℕ) → List Check
+box-checks c table = method-checks c ++ table-checks (c .n) (c .m) table
+
+-- a logged call's other checks: 10 to 13, 19, 14
+unfoldable pub other-checks : Case → (scratch lent : List ℕ) → List Check
+other-checks c scratch lent = mask-checks c ++ scratch-checks c scratch ++ log-checks c lent
+
 -- what both calls check of their numbers and their table
 unfoldable pub case-checks : Case → (table : List ℕ) → List Check
-case-checks c table = method-checks c ++ table-checks (c .n) (c .m) table ++ mask-checks c
+case-checks c table = box-checks c table ++ mask-checks c
 
 unfoldable pub case-refusal : Case → (table : List ℕ) → ℕ
 case-refusal c table = first-of (case-checks c table)

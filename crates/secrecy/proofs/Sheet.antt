@@ -18,7 +18,8 @@ use Rattle.lookup.specs.Method3.{comparison-table, scratch-3, place-3, compared
 use Rattle.lookup.specs.Methods.{among, found, known, method-of}
 use Rattle.lookup.specs.Call.{scratch-after, answer, log-of, log-length, scratch-length}
 use Rattle.lookup.specs.Layout.{pass-lines, passes-lines, lines}
-use Rattle.lookup.specs.Refusals.{method-checks, mask-checks, dirty, scratch-checks, log-checks, case-checks, case-refusal, logged-refusal}
+use Rattle.lookup.specs.Refusals.{method-checks, mask-checks, dirty, scratch-checks, log-checks, box-checks, case-checks, case-refusal}
+use Rattle.lookup.specs.Refusals.{logged-refusal}
 use Rattle.secrecy.specs.Count.{chosen-case, mask-widths, value-at, shows, count}
 use Rattle.secrecy.specs.BenchSheet.{sheet, Sheet-right}
 
@@ -27,5 +28,5 @@ unfolding Sheet-right sheet _⊕_ sum over first-of outside any-from width-refus
     layer-refusal layer ones at count-of all-below each-often balanced table-checks Q masked r-prime scratch-2 answer-2
     comparison-table scratch-3 place-3 compared registers-3 answer-3 scratch-after answer pass-lines passes-lines lines entry
     value-of among found known method-of log-of log-length scratch-length method-checks mask-checks dirty scratch-checks log-checks
-    case-checks case-refusal logged-refusal chosen-case mask-widths value-at shows count
+    box-checks case-checks case-refusal logged-refusal chosen-case mask-widths value-at shows count
 sheet-right = refl
