@@ -7,7 +7,7 @@ use lib.Dec.{eqb}
 use lib.ListN.{drop}
 use Rattle.counting.specs.Choice.{over}
 use Rattle.lookup.specs.declared.Case.{Case}
-use Rattle.lookup.specs.Call.{log-of}
+use Rattle.lookup.specs.Call.{log-of, log-length}
 use Rattle.secrecy.specs.Count.{Mask-places, single, chosen-case, mask-widths, value-at}
 use Rattle.chain.specs.declared.Second.{Second}
 use Rattle.chain.specs.Lent.{Lent}
@@ -24,6 +24,11 @@ pub record Boxes : Type 0 where
 -- one of the two calls
 pub data Which : Type 0 where
   first second : Which
+
+-- the entries that each of them logs
+unfoldable pub entries : Boxes → Which → ℕ
+entries k first = log-length (k .first-method) (k .input)
+entries k second = log-length (k .second-method) (k .between)
 
 -- A choice fixes the first call's r1, r2, r3, s1, s2 and b, as a single call's does, and behind them the second's r3, s1, s2 and b: its r1 and
 -- r2 are the first's s1 and s2, and are not drawn again.

@@ -14,7 +14,7 @@ use Rattle.lookup.specs.Call.{log-length, scratch-length}
 use Rattle.lookup.specs.Refusals.{dirty}
 use Rattle.chain.specs.Lent.{Lent}
 use Rattle.chain.specs.Chain.{chain-refusal}
-use Rattle.chain_secrecy.specs.Count.{Boxes, Which, first, second, chain-widths, first-case, second-own, chain-count, chain-call-count}
+use Rattle.chain_secrecy.specs.Count.{Boxes, Which, entries, chain-widths, first-case, second-own, chain-count, chain-call-count}
 
 -- all four pairings of methods
 abbrev pub Paired : Boxes → Type 0

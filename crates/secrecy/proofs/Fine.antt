@@ -31,7 +31,7 @@ each-passed test (e ∷ es) t =
     let both = and-yes (test e) (every test es) t in
     more (both .0) (each-passed test es (both .1))
 
-each-pair : (s : System) (es fs : List Expression) → T (all-fine s es fs) → Each (λ e. Each (λ f. T (fine s e f)) fs) es
+pub each-pair : (s : System) (es fs : List Expression) → T (all-fine s es fs) → Each (λ e. Each (λ f. T (fine s e f)) fs) es
 unfolding all-fine
 each-pair s es fs t = each-map (λ e. each-passed (fine s e) fs) (each-passed _ es t)
 
@@ -41,7 +41,7 @@ module _ (turns : ℕ) (l : Layout Shown) where
   line i = getD (lines at-turn turns l) i nothing
 
   -- what holds of the rows at every turn holds at every position
-  everywhere : {P : Expression → Type 0} → ((a : ℕ) → Each P (rows-at l a)) → (i : ℕ) → P (line i)
+  pub everywhere : {P : Expression → Type 0} → ((a : ℕ) → Each P (rows-at l a)) → (i : ℕ) → P (line i)
   everywhere {P} h i =
       let all : (a : ℕ) → Each (λ r. P (at-turn a r)) (l .head ++ all-rows (l .passes) ++ l .end)
       = λ a. each-source (at-turn a) _ (each-rest (h a)) in

@@ -1,9 +1,10 @@
 -- What is proved of each method's secrecy: its masks are drawn in their widths, its rows pass the leak test, and they show its values.
-use mathlib.Core.Path.{refl}
-use mathlib.Core.List.{List, map}
+use mathlib.Core.Path.{_≡_, refl}
+use mathlib.Core.List.{List, _∷_, map}
 use Prim.Native.Nat.{ℕ, _^_, _≤_, _<_}
 use native.Mathlib.Omega.{arith}
 use lib.Dec.{T}
+use lib.ListN.{length, drop}
 use Rattle.counting.specs.Choice.{width, Within}
 use Rattle.probing.specs.Expression.{Setting}
 use Rattle.probing.specs.Test.{all-fine}
@@ -28,7 +29,10 @@ pub record Drawn (method : Method) (n m : ℕ) (c : ℕ → ℕ) : Type 0 where
   pub s2 : c 4 < 2 ^ m
   pub b : c 5 ≤ method .b-most
 
+-- the classes of its six masks begin with the input's, of r1 and r2
 pub record Hiding (method : Method) : Type 0 where
+  pub six : length (method .mask-classes) ≡ 6
+  pub inputs : 0 ∷ 0 ∷ drop 2 (method .mask-classes) ≡ method .mask-classes
   pub rows : Call-places → Layout Shown
   pub fine : (a a' : ℕ) → T (all-fine (system (method .mask-classes)) (rows-at (rows (alone single)) a) (rows-at (rows (alone single)) a'))
   pub drawn : (n m : ℕ) (c : ℕ → ℕ) → Within (map (class-width n m) (method .mask-classes)) c → Drawn method n m c
@@ -37,20 +41,24 @@ pub record Hiding (method : Method) : Type 0 where
       → Same-rows (row-value (chosen-case (s .masks) number n m x masks) table) (expression-value setting secrets masks) (2 ^ n)
       (method .layout) (rows s)
 
-drawn-2 : (n m : ℕ) (c : ℕ → ℕ) → Within (map (class-width n m) (method-2 .mask-classes)) c → Drawn method-2 n m c
+pub drawn-2 : (n m : ℕ) (c : ℕ → ℕ) → Within (map (class-width n m) (method-2 .mask-classes)) c → Drawn method-2 n m c
 unfolding width
 drawn-2 n m c w =
     record { r1 = w .each 0; r2 = w .each 1; r3 = w .each 2; s1 = w .each 3; s2 = w .each 4; b = omega (arith, w .each 5) }
 
-drawn-3 : (n m : ℕ) (c : ℕ → ℕ) → Within (map (class-width n m) (method-3 .mask-classes)) c → Drawn method-3 n m c
+pub drawn-3 : (n m : ℕ) (c : ℕ → ℕ) → Within (map (class-width n m) (method-3 .mask-classes)) c → Drawn method-3 n m c
 unfolding width
 drawn-3 n m c w =
     record { r1 = w .each 0; r2 = w .each 1; r3 = w .each 2; s1 = w .each 3; s2 = w .each 4; b = omega (arith, w .each 5) }
 
+abbrev pub hiding-2 : Hiding method-2
+hiding-2 = record { six = refl; inputs = refl; rows = shown-2; fine = fine-2; drawn = drawn-2; shown = shows-2 }
+
+abbrev pub hiding-3 : Hiding method-3
+hiding-3 = record { six = refl; inputs = refl; rows = shown-3; fine = fine-3; drawn = drawn-3; shown = shows-3 }
+
 pub hiding : Each Hiding methods
-hiding =
-    more (record { rows = shown-2; fine = fine-2; drawn = drawn-2; shown = shows-2 })
-    (more (record { rows = shown-3; fine = fine-3; drawn = drawn-3; shown = shows-3 }) none)
+hiding = more hiding-2 (more hiding-3 none)
 
 -- a single call's masks and secrets stand where its rows say
 pub stands-alone : (method : Method) (n m x : ℕ) (table : List ℕ) (c : ℕ → ℕ) → x < 2 ^ n → Drawn method n m c

@@ -56,6 +56,21 @@ value-of-line st secrets masks turns l i =
     ap (λ ls. at ls i) (sym (lines-map at-turn (value st secrets masks) turns l))
     ∙ at-map (value st secrets masks) nothing (mod-eq-of-lt (pow-pos _)) (lines at-turn turns l) i
 
+-- an observer of two values
+abbrev pub observer : (u v : ℕ) → ℕ → ℕ → ℕ
+observer u v p q = cond (eqb (value-of p) u && eqb (value-of q) v) 1 0
+
+-- where a call's rows show a layout's expressions, the value at a position of its log is that of its line
+pub at-line : (st : Setting) (secrets masks : ℕ → ℕ) (c : Case) (table : List ℕ) (l : Layout Shown)
+    → Same-rows (row-value c table) (expression-value st secrets masks) (2 ^ c .n) (method-of (c .method) .layout) l → (i : ℕ)
+    → value-at (log-of c table) i ≡ value-of (value st secrets masks (line (2 ^ c .n) l i))
+unfolding value-at log-of Q
+at-line st secrets masks c table l shown i =
+    value-of-row c table (2 ^ c .n) (method-of (c .method) .layout) i
+    ∙ ap value-of
+    (ap (λ ls. at ls i) (lines-same _ _ (2 ^ c .n) (method-of (c .method) .layout) l shown)
+    ∙ value-of-line st secrets masks (2 ^ c .n) l i)
+
 module _ (table : List ℕ) (n m : ℕ) where
   -- what two inputs and an even table have in common with the leak test's assumptions
   pub known : (masks : List ℕ) (x y : ℕ) → Even n (at table) → ((z : ℕ) → at table z < 2 ^ m) → x < 2 ^ n → y < 2 ^ n
@@ -73,10 +88,6 @@ module _ (table : List ℕ) (n m : ℕ) where
             ];
       }
 
-  -- an observer of two values
-  abbrev pub observer : (u v : ℕ) → ℕ → ℕ → ℕ
-  observer u v p q = cond (eqb (value-of p) u && eqb (value-of q) v) 1 0
-
   module _ (method : ℕ) (l : Layout Shown) where
     -- the log shows the layout's expressions
     abbrev pub Shows : (x : ℕ) → Type 0
@@ -85,22 +96,19 @@ module _ (table : List ℕ) (n m : ℕ) where
         Same-rows (row-value (chosen-case single method n m x c) table) (expression-value (setting n m table) (secrets table x) c) (2 ^ n)
         (method-of method .layout) l
 
-    at-line : (x : ℕ) → Shows x → (c : ℕ → ℕ) → Within (mask-widths method n m) c → (i : ℕ)
+    shown-at : (x : ℕ) → Shows x → (c : ℕ → ℕ) → Within (mask-widths method n m) c → (i : ℕ)
         → value-at (log-of (chosen-case single method n m x c) table) i
         ≡ value-of (value (setting n m table) (secrets table x) c (line (2 ^ n) l i))
-    unfolding value-at log-of Q chosen-case
-    at-line x shown c inside i =
-        value-of-row (chosen-case single method n m x c) table (2 ^ n) (method-of method .layout) i
-        ∙ ap value-of
-        (ap (λ ls. at ls i) (lines-same _ _ (2 ^ n) (method-of method .layout) l (shown c inside))
-        ∙ value-of-line (setting n m table) (secrets table x) c (2 ^ n) l i)
+    unfolding chosen-case
+    shown-at x shown c inside i =
+        at-line (setting n m table) (secrets table x) c (chosen-case single method n m x c) table l (shown c inside) i
 
     count-seen : (x i j u v : ℕ) → Shows x
         → count table method n m x i j u v
         ≡ seen (system (method-of method .mask-classes)) (setting n m table) (secrets table x) (observer u v) (line (2 ^ n) l i) (line (2 ^ n) l j)
     unfolding count shows mask-widths
     count-seen x i j u v shown =
-        over-ext (mask-widths method n m) (λ c inside. rw (at-line x shown c inside i, at-line x shown c inside j))
+        over-ext (mask-widths method n m) (λ c inside. rw (shown-at x shown c inside i, shown-at x shown c inside j))
 
     pub counts-equal : (x y i j u v : ℕ) → Shows x → Shows y
         → Alike (system (method-of method .mask-classes)) (setting n m table) (secrets table x) (secrets table y) (line (2 ^ n) l i)

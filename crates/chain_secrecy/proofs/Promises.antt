@@ -1,0 +1,29 @@
+-- The third demand of a chain holds.
+use Prim.Native.Nat.{_^_}
+use Rattle.probing.proofs.Sound.{alike}
+use Rattle.table.proofs.Balanced.{balanced-below}
+use Rattle.table.proofs.Even.{balanced-even}
+use Rattle.lookup.specs.Methods.{method-of}
+use Rattle.lookup.proofs.Methods.{of-each, known-2-or-3}
+use Rattle.chain_secrecy.specs.Expressions.{chain-system, chain-setting}
+use Rattle.chain_secrecy.specs.Promises.{Chain-tells-nothing, Even-chain-tells-nothing}
+use Rattle.chain_secrecy.proofs.Fine.{Pairing, paired-rows, pairings, any-two}
+use Rattle.chain_secrecy.proofs.Observed.{turns, assumed, counts-equal}
+
+pub even-chain-tells-nothing : Even-chain-tells-nothing
+unfolding Even-chain-tells-nothing
+even-chain-tells-nothing S T k x y w w′ i j u v even small even′ small′ paired hx hy =
+    let known-first = known-2-or-3 (paired .0) in
+    let p = of-each (k .second-method) (of-each (k .first-method) pairings known-first) (known-2-or-3 (paired .1)) in
+    let f = method-of (k .first-method) in
+    let g = method-of (k .second-method) in
+    counts-equal S T k p known-first small x y w w′ i j u v hx hy
+    (alike (chain-system f g) (chain-setting S T k) (assumed S T k f g x y even small even′ small′ hx hy) _ _
+    (any-two (turns k) (paired-rows (p .one) (p .two)) (chain-system f g) (p .fine) w w′ i j))
+
+pub chain-tells-nothing : Chain-tells-nothing
+unfolding Chain-tells-nothing Even-chain-tells-nothing
+chain-tells-nothing S T k x y w w′ i j u v balance balance′ =
+    even-chain-tells-nothing S T k x y w w′ i j u v (balanced-even (k .input) (k .between) S balance)
+    (balanced-below (k .input) (k .between) S balance) (balanced-even (k .between) (k .output) T balance′)
+    (balanced-below (k .between) (k .output) T balance′)
