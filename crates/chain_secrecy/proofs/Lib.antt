@@ -3,3 +3,5 @@ pub mod Fine
 pub mod Chosen
 pub mod Observed
 pub mod Promises
+pub mod Lent
+pub mod Counts

@@ -21,6 +21,10 @@ pub record Boxes : Type 0 where
   pub between : ℕ
   pub output : ℕ
 
+abbrev pub boxes : (first-method second-method input between output : ℕ) → Boxes
+boxes first-method second-method input between output =
+    record { first-method = first-method; second-method = second-method; input = input; between = between; output = output }
+
 -- one of the two calls
 pub data Which : Type 0 where
   first second : Which

@@ -14,7 +14,8 @@ use Rattle.lookup.specs.Call.{log-length, scratch-length}
 use Rattle.lookup.specs.Refusals.{dirty}
 use Rattle.chain.specs.Lent.{Lent}
 use Rattle.chain.specs.Chain.{chain-refusal}
-use Rattle.chain_secrecy.specs.Count.{Boxes, Which, entries, chain-widths, first-case, second-own, chain-count, chain-call-count}
+use Rattle.chain_secrecy.specs.Count.{Boxes, boxes, Which, first, second, entries, chain-widths, first-case, second-own}
+use Rattle.chain_secrecy.specs.Count.{defined-logs, left-logs, chain-count, chain-call-count}
 
 -- all four pairings of methods
 abbrev pub Paired : Boxes → Type 0
@@ -42,3 +43,49 @@ Chained-call-tells-nothing =
     → table-refusal (k .between) (k .output) (l .second-table) ≡ 0 → Paired k → x < 2 ^ k .input → y < 2 ^ k .input
     → i < entries k a → j < entries k b →
     chain-call-count l k x a b i j u v ≡ chain-call-count l k y a b i j u v
+
+-- both calls are lent scratch and a log that are long enough, and the scratches are clean
+abbrev pub Lent-fit : Boxes → Lent → Type 0
+Lent-fit k l =
+    (scratch-length (k .first-method) (k .input) ≤ length (l .first-scratch))
+    × (dirty (scratch-length (k .first-method) (k .input)) (l .first-scratch) ≡ false)
+    × (entries k first ≤ length (l .first-log))
+    × (scratch-length (k .second-method) (k .between) ≤ length (l .second-scratch))
+    × (dirty (scratch-length (k .second-method) (k .between)) (l .second-scratch) ≡ false)
+    × (entries k second ≤ length (l .second-log))
+
+-- then every choice that is counted is accepted, where both tables are
+unfoldable pub Chain-choices-accepted : Type 0
+Chain-choices-accepted =
+    (l : Lent) (k : Boxes) (x : ℕ) (choice : ℕ → ℕ) → table-refusal (k .input) (k .between) (l .first-table) ≡ 0
+    → table-refusal (k .between) (k .output) (l .second-table) ≡ 0 → Paired k → x < 2 ^ k .input → Within (chain-widths k) choice
+    → Lent-fit k l →
+    chain-refusal (first-case k x choice) (second-own k choice) l ≡ 0
+
+-- and for every accepted choice, each entry below a log's length that the chained call leaves is the counted one
+unfoldable pub Left-logs-counted : Type 0
+Left-logs-counted =
+    (l : Lent) (k : Boxes) (x : ℕ) (choice : ℕ → ℕ) (w : Which) (i : ℕ) → chain-refusal (first-case k x choice) (second-own k choice) l ≡ 0
+    → i < entries k w →
+    at (left-logs l k x choice w) i ≡ at (defined-logs (l .first-table) (l .second-table) k x choice w) i
+
+-- how many choices there are: 2^(3n + 3m + 2m') under method 2 twice, twice as many for each call under method 3
+unfoldable pub Choices-counted : Type 0
+Choices-counted =
+    (n m m′ : ℕ) → (over (chain-widths (boxes 2 2 n m m′)) (λ c. 1) ≡ 2 ^ (3 * n + 3 * m + 2 * m′))
+    × (over (chain-widths (boxes 2 3 n m m′)) (λ c. 1) ≡ 2 * 2 ^ (3 * n + 3 * m + 2 * m′))
+    × (over (chain-widths (boxes 3 2 n m m′)) (λ c. 1) ≡ 2 * 2 ^ (3 * n + 3 * m + 2 * m′))
+    × (over (chain-widths (boxes 3 3 n m m′)) (λ c. 1) ≡ 4 * 2 ^ (3 * n + 3 * m + 2 * m′))
+
+-- the count in numbers, with the table 1, 0 twice under method 2. Of the 256 choices none shows the first's answer as 0 and the second's x0, which
+-- is the same share, as 1; 64 show the first's r1 as 0 and the second's r1, its s1, as 0. With the table 0, 0, 0, 1 first, which is not
+-- balanced, there are 2048 choices: the masked entry of turn 0 and the first's answer, as the second's x0, are both 0 for 768 of them where the
+-- input is 0, and for 256 where it is 3
+unfoldable pub Counts-computed : Type 0
+Counts-computed =
+    chain-count (1 ∷ 0 ∷ []) (1 ∷ 0 ∷ []) (boxes 2 2 1 1 1) 0 first second 21 0 0 1
+    ∷ chain-count (1 ∷ 0 ∷ []) (1 ∷ 0 ∷ []) (boxes 2 2 1 1 1) 0 first second 1 1 0 0
+    ∷ chain-count (0 ∷ 0 ∷ 0 ∷ 1 ∷ []) (1 ∷ 0 ∷ []) (boxes 2 2 2 1 1) 0 first second 13 0 0 0
+    ∷ chain-count (0 ∷ 0 ∷ 0 ∷ 1 ∷ []) (1 ∷ 0 ∷ []) (boxes 2 2 2 1 1) 3 first second 13 0 0 0
+    ∷ []
+    ≡ 0 ∷ 64 ∷ 768 ∷ 256 ∷ []

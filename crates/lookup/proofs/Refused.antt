@@ -9,7 +9,7 @@ use lib.ListN.{length, take, replicate, length-replicate, replicate-append-repli
 use lib.Seq.{length-take-le, take-at}
 use Rattle.refusals.specs.Checks.{first-of}
 use Rattle.refusals.specs.Tests.{any-from}
-use Rattle.refusals.proofs.Checks.{passed, goes, none-applies, numbered, passed-both, goes-both, none-behind}
+use Rattle.refusals.proofs.Checks.{passed, goes, none-applies, numbered, passed-both, goes-both, none-behind, none-before}
 use Rattle.refusals.proofs.Tests.{zeros-none, none-nonzero}
 use Rattle.table.specs.Refusals.{table-checks, table-refusal}
 use Rattle.table.proofs.Refusals.{Table, table-accepted}
@@ -93,6 +93,10 @@ module _ (c : Case) (table : List ℕ) where
   unfolding case-refusal case-checks
   case-by-parts e f = sym (goes-both (box-checks c table) (mask-checks c) box-numbered (sym e) (sym f))
 
+  pub case-parts : case-refusal c table ≡ 0 → (first-of (box-checks c table) ≡ 0) × (first-of (mask-checks c) ≡ 0)
+  unfolding case-refusal case-checks
+  case-parts e = passed-both (box-checks c table) (mask-checks c) box-numbered e
+
   pub box-accepted : first-of (box-checks c table) ≡ 0 → (known (c .method) ≡ true) × Table (c .n) (c .m) table
   unfolding box-checks method-checks table-refusal
   box-accepted e =
@@ -134,7 +138,7 @@ module _ (c : Case) (table : List ℕ) where
     unfolding case-refusal logged-refusal
     logged-by-rest lent e =
         ap first-of (append-assoc (case-checks c table) (scratch-checks c scratch) (log-checks c lent))
-        ∙ sym (goes-both (case-checks c table) (scratch-checks c scratch ++ log-checks c lent) case-numbered (sym e) refl)
+        ∙ none-before (case-checks c table) (scratch-checks c scratch ++ log-checks c lent) case-numbered e
 
     -- the logged call's checks in two parts, 2 to 7 and the others
     pub logged-parts : (lent : List ℕ) → logged-refusal c table scratch lent ≡ first-of (box-checks c table ++ other-checks c scratch lent)

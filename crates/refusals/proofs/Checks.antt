@@ -71,6 +71,15 @@ unfolding first-of
 none-behind [] ds e = e
 none-behind (c ∷ cs) ds e = ap (cond (c .applies) (c .number)) (none-behind cs ds e)
 
+-- nor do checks before a list, or between two
+pub none-before : (cs ds : List Check) → numbered cs ≡ true → first-of cs ≡ 0 → first-of (cs ++ ds) ≡ first-of ds
+none-before cs ds h e = sym (goes-both cs ds h (sym e) refl)
+
+pub none-between : (bs cs ds : List Check) → numbered cs ≡ true → first-of cs ≡ 0 → first-of (bs ++ (cs ++ ds)) ≡ first-of (bs ++ ds)
+unfolding first-of
+none-between [] cs ds h e = none-before cs ds h e
+none-between (b ∷ bs) cs ds h e = ap (cond (b .applies) (b .number)) (none-between bs cs ds h e)
+
 -- no check has a number above the most, and so no number above it is handed back
 unfoldable pub up-to : (most : ℕ) → List Check → Bool
 up-to most [] = true

@@ -1,0 +1,40 @@
+-- The counts in numbers: how many choices there are, and counts that compute to what is promised.
+use mathlib.Core.Path.{_≡_, refl, _∙_}
+use Prim.Native.Nat.{ℕ, _+_, _*_, _^_}
+use native.Mathlib.Omega.{arith}
+use lib.Pow.{pow-add}
+use Rattle.bits.specs.Xor.{_⊕_}
+use Rattle.counting.specs.Sum.{sum}
+use Rattle.counting.specs.Choice.{over, total}
+use Rattle.counting.proofs.Over.{choices}
+use Rattle.table.specs.Balanced.{at}
+use Rattle.lookup.specs.Case.{Q}
+use Rattle.lookup.specs.Entry.{entry, value-of}
+use Rattle.lookup.specs.Row.{masked}
+use Rattle.lookup.specs.Method2.{r-prime, scratch-2, answer-2}
+use Rattle.lookup.specs.Methods.{found, method-of}
+use Rattle.lookup.specs.Call.{answer, log-of}
+use Rattle.lookup.specs.Layout.{pass-lines, passes-lines, lines}
+use Rattle.secrecy.specs.Count.{chosen-case, mask-widths, value-at}
+use Rattle.chain.specs.Chain.{second-case, following}
+use Rattle.chain_secrecy.specs.Count.{boxes, chain-widths, first-case, second-own, defined-logs, count-by, chain-count}
+use Rattle.chain_secrecy.specs.Promises.{Choices-counted, Counts-computed}
+
+pub choices-counted : Choices-counted
+unfolding Choices-counted chain-widths mask-widths method-of found total
+choices-counted n m m′ =
+    let bits : ℕ = 3 * n + 3 * m + 2 * m′ in
+    let none : total (chain-widths (boxes 2 2 n m m′)) ≡ bits = omega arith in
+    let second : total (chain-widths (boxes 2 3 n m m′)) ≡ 1 + bits = omega arith in
+    let first : total (chain-widths (boxes 3 2 n m m′)) ≡ 1 + bits = omega arith in
+    let both : total (chain-widths (boxes 3 3 n m m′)) ≡ 2 + bits = omega arith in (
+      choices _ ∙ rw none,
+      choices _ ∙ rw second (pow-add 2 1 bits),
+      choices _ ∙ rw first (pow-add 2 1 bits),
+      choices _ ∙ rw both (pow-add 2 2 bits),
+    )
+
+pub counts-computed : Counts-computed
+unfolding Counts-computed chain-count count-by defined-logs chain-widths first-case second-own following second-case over sum chosen-case
+    mask-widths value-at log-of lines passes-lines pass-lines method-of found Q entry value-of masked r-prime scratch-2 answer-2 answer at _⊕_
+counts-computed = refl
