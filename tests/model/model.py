@@ -101,10 +101,7 @@ def mask_refusal(case):
     return 0
 
 
-def plain_refusal(case, table, scratch):
-    refusal = table_refusal(case.method, case.n, case.m, table) or mask_refusal(case)
-    if refusal:
-        return refusal
+def scratch_refusal(case, scratch):
     if len(scratch) < 2**case.n:
         return 13
     if any(byte != 0 for byte in scratch[: 2**case.n]):
@@ -112,17 +109,26 @@ def plain_refusal(case, table, scratch):
     return 0
 
 
+def plain_refusal(case, table, scratch):
+    return table_refusal(case.method, case.n, case.m, table) or mask_refusal(case) or scratch_refusal(case, scratch)
+
+
 def log_length(method, n):
     return 10 + {2: 6, 3: 9}[method] * 2**n
 
 
-def logged_refusal(case, table, scratch, log):
-    refusal = plain_refusal(case, table, scratch)
+# What a logged call refuses once its table has passed.
+def other_refusal(case, scratch, log):
+    refusal = mask_refusal(case) or scratch_refusal(case, scratch)
     if refusal:
         return refusal
     if len(log) < log_length(case.method, case.n):
         return 14
     return 0
+
+
+def logged_refusal(case, table, scratch, log):
+    return table_refusal(case.method, case.n, case.m, table) or other_refusal(case, scratch, log)
 
 
 # The two methods. Each takes an accepted case and hands back the answer, the whole scratch and the log as (kind, value) pairs.
