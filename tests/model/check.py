@@ -3,6 +3,7 @@
 import sys
 
 import check_calls
+import check_chain
 import check_counts
 import check_frame
 import check_print
@@ -14,6 +15,7 @@ import check_small
 PARTS = {
     "model": (check_small, check_print, check_calls),
     "counts": (check_counts,),
+    "chain": (check_chain,),
     "sbox": (check_sbox,),
     "screening": (check_screening,),
     "frame": (check_frame,),

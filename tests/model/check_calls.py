@@ -9,6 +9,11 @@ P3 = P2._replace(method=3, b=1)
 P6 = P2._replace(m=1, s1=1, s2=0)
 
 
+def log_length(method, n):
+    head, turn, end = KINDS[method]
+    return len(head) + len(turn) * 2**n + len(end)
+
+
 # The refusal, the answer and the scratch of a logged call, with buffers that suffice at n = 2 where none are given. Bench calls begin
 # with zeros.
 def outcome(case, table, scratch=(0, 0, 0, 0), log_entries=46):
@@ -141,26 +146,37 @@ def scratches():
         yield (case, "scratch"), model.plain_call(case, TABLE_A, [0] * 4)[3], wanted
 
 
-# A call that is accepted at n = 2, m = 1 under both methods: its numbers, its table, its scratch with an end that is not looked at, and
-# the length of its log.
-FINE = dict(method=2, n=2, m=1, x0=3, r1=3, r2=3, s1=1, s2=1, r3=3, b=0, table=[0, 1, 1, 0], scratch=[0, 0, 0, 0, 7], log=46)
+# A call that is accepted under both methods: its numbers, its table, its scratch with an end that is not looked at, and the length of its
+# log.
+def fine_call(n, m, table):
+    inputs, outputs = {name: 2**n - 1 for name in ("x0", "r1", "r2")}, {name: 2**m - 1 for name in ("s1", "s2")}
+    numbers = dict(method=2, n=n, m=m, **inputs, **outputs, r3=2**n - 1, b=0)
+    return {**numbers, "table": table, "scratch": [0] * 2**n + [7], "log": log_length(3, n)}
+
+
 # Faults of it, in the order of the checks: the refusal, what is faulty and what stands there.
-FAULTS = [
-    *((2, "method", value) for value in (0, 1, 4, 258, 2**32 - 1)),
-    *((3, "n", value) for value in (0, 9, 258)),
-    *((4, "m", value) for value in (0, 3, 9, 257)),
-    *((5, "table", value) for value in ([], [0, 1, 1], [0, 1, 1, 0, 1], [0, 1, 2, 0, 1])),
-    *((6, "table", value) for value in ([2, 1, 1, 0], [0, 1, 1, 2], [0, 0, 0, 255])),
-    *((7, "table", value) for value in ([0, 0, 0, 1], [1, 1, 1, 0], [0, 0, 0, 0])),
-    *((10, name, value) for name in ("x0", "r1", "r2", "r3") for value in (4, 256)),
-    *((11, name, value) for name in ("s1", "s2") for value in (2, 256)),
-    *((12, "b", value) for value in (2, 256)),
-    *((13, "scratch", value) for value in ([], [0, 0, 0], [1, 0, 0], [9, 9, 9])),
-    *((19, "scratch", [value, 0, 0, 0]) for value in (1, 2, 128, 255)),
-    *((19, "scratch", [0, 0, 0, value, 0]) for value in (1, 2, 128, 255)),
-    *((19, "scratch", value) for value in ([0, 1, 0, 0], [0, 0, 255, 0], [128, 0, 0, 128], [9, 9, 9, 9], [1, 2, 3, 4, 5, 6])),
-    *((14, "log", value) for value in (0, 33)),
-]
+def faults(n, m, table):
+    rest = [0] * (2**n - 1)
+    return [
+        *((2, "method", value) for value in (0, 1, 4, 258, 2**32 - 1)),
+        *((3, "n", value) for value in (0, 9, 256 + n)),
+        *((4, "m", value) for value in (0, n + 1, 9, 256 + m)),
+        *((5, "table", value) for value in ([], table[:-1], [*table, 1], [*table, 2**m])),
+        *((6, "table", value) for value in ([2**m, *table[1:]], [*table[:-1], 2**m], [*rest, 255])),
+        *((7, "table", value) for value in ([*rest, 1], [1 - byte for byte in (*rest, 1)], [*rest, 0])),
+        *((10, name, value) for name in ("x0", "r1", "r2", "r3") for value in (2**n, 256)),
+        *((11, name, value) for name in ("s1", "s2") for value in (2**m, 256)),
+        *((12, "b", value) for value in (2, 256)),
+        *((13, "scratch", value) for value in ([], rest, [1, *rest[1:]], [9 for _ in rest])),
+        *((19, "scratch", [value, *rest]) for value in (1, 2, 128, 255)),
+        *((19, "scratch", [*rest, value, 0]) for value in (1, 2, 128, 255)),
+        *((19, "scratch", value) for value in ([0, 1, *rest[1:]], [*rest[1:], 255, 0], [128, *rest[1:], 128])),
+        *((19, "scratch", value) for value in ([9] * 2**n, list(range(1, 2**n + 3)))),
+        *((14, "log", value) for value in (0, log_length(2, n) - 1)),
+    ]
+
+
+FINE, FAULTS = fine_call(2, 1, [0, 1, 1, 0]), faults(2, 1, [0, 1, 1, 0])
 # What stands just inside: the call is still accepted.
 NEIGHBOURS = [
     *(("scratch", [0, 0, 0, 0, *end]) for end in ([], [1], [255], [0, 1], [255, 255, 255])),

@@ -2,9 +2,10 @@
 # and what it should say.
 import counts
 import model
+from check_calls import log_length
 from count_sheets import P12_PAIR, SAMPLE, probe_sheet
 from counts import ProbePair
-from document import KINDS, TABLE_A
+from document import TABLE_A
 
 TOP = 2**32 - 1
 # Balanced tables of every pair of widths.
@@ -16,11 +17,6 @@ TABLES = {
     (3, 2): [3, 0, 1, 1, 2, 0, 3, 2],
     (3, 3): [6, 1, 0, 7, 3, 5, 2, 4],
 }
-
-
-def log_length(method, n):
-    head, turn, end = KINDS[method]
-    return len(head) + len(turn) * 2**n + len(end)
 
 
 # The sheet of an accepted pair, with buffers that just suffice.

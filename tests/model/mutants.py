@@ -4,12 +4,14 @@ import ast
 import sys
 from pathlib import Path
 
+import chain
 import check
 import counts
 import frame
 import model
 import sbox
 import screening
+from chain_mutants import CHAIN
 from count_mutants import COUNTS
 from edits import edited
 from frame_mutants import FRAME
@@ -61,7 +63,7 @@ def complaints(module, edits):
 
 
 def main():
-    modules = ((model, MODEL), (counts, COUNTS), (sbox, SBOX), (screening, SCREENING), (frame, FRAME))
+    modules = ((model, MODEL), (counts, COUNTS), (chain, CHAIN), (sbox, SBOX), (screening, SCREENING), (frame, FRAME))
     found = [] if [module.__name__ for module, _ in modules] == list(check.PARTS) else ["other modules are checked than are edited"]
     for module, edits in modules:
         found += [f"{module.__name__}: {complaint}" for complaint in complaints(module, edits)]
