@@ -7,6 +7,5 @@ use Rattle.test_logged_calls.proofs.answer.Tie as tie
 pub answer-spec : {M : Type 1} → statement M
 answer-spec =
     tie.close
-    (tie.spec (λ c κs. search needs) (λ c κs. search needs) (λ c κs. search needs) (λ c κs. search needs) (λ c. search needs)
-    (λ c. search (front-counted, needs)) (λ c. search needs) (λ c. search (front-counted, needs)) (λ c κs. search needs)
-    (λ c. search needs))
+    (tie.spec (λ c κs. search needs) (λ c κs. search needs) (λ c. search needs) (λ c. search (front-counted, needs))
+    (λ c. search needs) (λ c. search (front-counted, needs)) (λ c κs. search needs) (λ c. search needs))

@@ -1,10 +1,10 @@
--- `test_logged_calls::soil` is safe and ends: the buffer keeps its length, and the measure is the number of places that are left.
+-- `test_lookup_records::soil` is safe and ends: the buffer keeps its length, and the measure is the number of places that are left.
 use mathlib.Core.Path.{_≡_}
 use Prim.Native.Nat.{_-_}
 use lib.ListN.{length}
 use borrow.Author.Needs.{needs}
-use Rattle.test_logged_calls.proofs.soil.Statement.{statement}
-use Rattle.test_logged_calls.proofs.soil.Tie as tie
+use Rattle.test_lookup_records.proofs.soil.Statement.{statement}
+use Rattle.test_lookup_records.proofs.soil.Tie as tie
 
 abbrev Inv-loop : tie.InvT-loop
 Inv-loop buffer₀ from to at₀ buffer at = length buffer ≡ length buffer₀
