@@ -73,23 +73,25 @@ def dirty(call):
     return call._replace(dirty=range(LONGEST_SCRATCH))
 
 
+# Those of the bench sheet that are accepted.
+P1 = with_buffers(model.Case(2, 1, 1, 0, 1, 0, 0, 1, 1, 0), [1, 0])
+P2 = with_buffers(model.Case(2, 2, 2, 0, 1, 2, 3, 0, 2, 0), [2, 0, 3, 1])
+P3 = with_buffers(model.Case(3, 2, 2, 0, 1, 2, 3, 0, 2, 1), [2, 0, 3, 1])
+
+
 def bench_sheet():
-    table_a = [2, 0, 3, 1]
-    p1 = with_buffers(model.Case(2, 1, 1, 0, 1, 0, 0, 1, 1, 0), [1, 0])
-    p2 = with_buffers(model.Case(2, 2, 2, 0, 1, 2, 3, 0, 2, 0), table_a)
-    p3 = with_buffers(model.Case(3, 2, 2, 0, 1, 2, 3, 0, 2, 1), table_a)
-    p6 = with_numbers(p2, m=1, s1=1)
-    yield from (p1, p2, p3)
-    yield from map(roomier, (p1, p2, p3))
-    yield from (with_numbers(p2, x0=4), with_numbers(p2, x0=3))
-    yield with_numbers(p2, m=3)
+    p6 = with_numbers(P2, m=1, s1=1)
+    yield from (P1, P2, P3)
+    yield from map(roomier, (P1, P2, P3))
+    yield from (with_numbers(P2, x0=4), with_numbers(P2, x0=3))
+    yield with_numbers(P2, m=3)
     yield from (p6._replace(table=[0, 0, 0, 1]), p6._replace(table=[0, 1, 1, 0]))
-    yield from (p2._replace(scratch=3), p2._replace(scratch=4))
-    yield from (p2._replace(log=33), p2._replace(log=34))
-    yield from (with_numbers(p2, b=1), with_numbers(p3, b=2))
-    yield with_numbers(p2, method=4, n=9)
-    yield from (dirty_at(p2, 0), dirty_at(p2, 3), dirty_at(p2._replace(scratch=5), 4))
-    yield from (dirty(p2._replace(scratch=3)), dirty_at(p2._replace(log=33), 0))
+    yield from (P2._replace(scratch=3), P2._replace(scratch=4))
+    yield from (P2._replace(log=33), P2._replace(log=34))
+    yield from (with_numbers(P2, b=1), with_numbers(P3, b=2))
+    yield with_numbers(P2, method=4, n=9)
+    yield from (dirty_at(P2, 0), dirty_at(P2, 3), dirty_at(P2._replace(scratch=5), 4))
+    yield from (dirty(P2._replace(scratch=3)), dirty_at(P2._replace(log=33), 0))
 
 
 # Both methods at every pair of widths, one of them with longer buffers.
@@ -173,25 +175,33 @@ def dirty_scratch():
             yield dirty(call._replace(log=call.log - 1))
 
 
+# The faults of a call, in the order of the checks, first those of its table. Each takes the call, which may have another, and the call
+# before any.
+TABLE_FAULTS = (
+    lambda call, fine: with_numbers(call, method=chance.choice((1, 4))),
+    lambda call, fine: with_numbers(call, n=chance.choice((0, 9))),
+    lambda call, fine: with_numbers(call, m=chance.choice((0, fine.case.n + 1))),
+    lambda call, fine: call._replace(table=call.table + [0]),
+    lambda call, fine: with_entry(call, 0, 2**fine.case.m),
+    lambda call, fine: with_entry(call, 1, (call.table[1] + 1) % 2**fine.case.m),
+)
+OTHER_FAULTS = (
+    lambda call, fine: with_numbers(call, **{chance.choice(INPUTS): 2**fine.case.n}),
+    lambda call, fine: with_numbers(call, **{chance.choice(OUTPUTS): 2**fine.case.m}),
+    lambda call, fine: with_numbers(call, b=2),
+    lambda call, fine: call._replace(scratch=2**fine.case.n - 1),
+    lambda call, fine: dirty_at(call, chance.randrange(2**fine.case.n - 1)),
+    lambda call, fine: call._replace(log=call.log - 1),
+)
+
+
 # A fault alone, which is one that is made twice, and two faults together: the number that is checked first is returned.
 def two_faults():
-    faults = (
-        lambda call: with_numbers(call, method=chance.choice((1, 4))),
-        lambda call: with_numbers(call, n=chance.choice((0, 9))),
-        lambda call: with_numbers(call, m=chance.choice((0, 4))),
-        lambda call: call._replace(table=call.table + [0]),
-        lambda call: with_entry(call, 0, 4),
-        lambda call: with_entry(call, 1, (call.table[1] + 1) % 4),
-        lambda call: with_numbers(call, **{chance.choice(INPUTS): 8}),
-        lambda call: with_numbers(call, **{chance.choice(OUTPUTS): 4}),
-        lambda call: with_numbers(call, b=2),
-        lambda call: call._replace(scratch=7),
-        lambda call: dirty_at(call, chance.randrange(7)),
-        lambda call: call._replace(log=call.log - 1),
-    )
+    faults = TABLE_FAULTS + OTHER_FAULTS
     for first, fault in enumerate(faults):
         for other in faults[first:]:
-            yield other(fault(accepted(chance.choice((2, 3)), 3, 2)))
+            fine = accepted(chance.choice((2, 3)), 3, 2)
+            yield other(fault(fine, fine), fine)
 
 
 def record(call):
@@ -207,13 +217,19 @@ def checksum(values):
     return total
 
 
+# The scratch and the log that are lent.
+def lent(call):
+    return [DIRTY_BYTE if place in call.dirty else 0 for place in range(call.scratch)], [FILLED_ENTRY] * call.log
+
+
+# A buffer of a call as it is printed.
+def printed(call, buffer):
+    return buffer if call.case.n <= 2 else [checksum(buffer)]
+
+
 def answer(call):
-    scratch = [DIRTY_BYTE if place in call.dirty else 0 for place in range(call.scratch)]
-    log = [FILLED_ENTRY] * call.log
-    refusal, share, count, scratch, log = model.logged_call(call.case, call.table, scratch, log)
-    if call.case.n <= 2:
-        return [refusal, share, count, *scratch, *log]
-    return [refusal, share, count, checksum(scratch), checksum(log)]
+    refusal, share, count, scratch, log = model.logged_call(call.case, call.table, *lent(call))
+    return [refusal, share, count, *printed(call, scratch), *printed(call, log)]
 
 
 KINDS = (

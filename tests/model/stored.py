@@ -5,6 +5,7 @@ import sys
 import tempfile
 from pathlib import Path
 
+import chain_cases
 import count_cases
 import count_sheets
 import counts
@@ -38,6 +39,7 @@ def made_files():
     return {
         **program_files("test_small_calls", small_cases),
         **program_files("test_logged_calls", logged_cases),
+        **program_files("test_chained_calls", chain_cases),
         **program_files("test_screening", screening_cases),
         **program_files("test_frames", frame_records),
         **program_files("test_count_sheets", count_cases),
