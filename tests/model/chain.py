@@ -1,6 +1,7 @@
 # Two calls in a row in plain Python, written from the requirements alone. It shares nothing with the proved code.
 # The first call's output shares go straight into the second: its answer is the second's x0, and its s1 and s2 are the second's r1 and r2.
 # Tables, scratch and logs are as in model.py.
+import functools
 import itertools
 from collections import namedtuple
 
@@ -49,13 +50,20 @@ def second_choices(method, n, m):
         yield Second(method, n, m, *masks)
 
 
+# What a run on clean scratch answers, and the values that its log shows.
+def shown_run(case, table):
+    answer, _, log = model.run(case, table, [0] * 2**case.n)
+    return answer, bytes(value for _, value in log)
+
+
 # The values that each position of the first log, and behind them each of the second, shows: one for each choice of both calls' masks.
-# The widths are the first table's n, its m, which is the second's n, and the second's m. No table need be one that a call accepts.
+# The widths are the first table's n, its m, which is the second's n, and the second's m. No table need be one that a call accepts. The
+# second call's runs are kept: many choices have one in common.
 def shown_values(methods, widths, tables, secret):
+    second_run = functools.cache(lambda case: shown_run(case, tables[1]))
     values = []
     for first in model.choices(methods[0], *widths[:2], secret):
-        share, _, log = model.run(first, tables[0], [0] * 2**first.n)
+        share, shown = shown_run(first, tables[0])
         for second in second_choices(methods[1], *widths[1:]):
-            _, _, second_log = model.run(following(first, second, share), tables[1], [0] * 2**second.n)
-            values.append(bytes(value for _, value in log + second_log))
+            values.append(shown + second_run(following(first, second, share))[1])
     return [bytes(column) for column in zip(*values)]

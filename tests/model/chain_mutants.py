@@ -110,6 +110,14 @@ CHAIN = {
         ("(method, n, m, *masks)", "(method, n, m, *masks[:2], 0, masks[3])"),
         ("(method, n, m, *masks)", "(method, n, m, masks[0], *masks[0:1], *masks[2:])"),
     ],
+    "shown_run": [
+        ("(value for _, value in log)", "(kind for kind, _ in log)"),
+        ("(value for _, value in log)", "(value for _, value in log[::-1])"),
+        ("(value for _, value in log)", "(value for _, value in log[:-1])"),
+        ("return answer", "return 0"),
+        ("return answer", "return 1 - answer"),
+        ("[0] * 2**case.n", "[0] * 2**case.m"),
+    ],
     "shown_values": [
         ("secret):\n        share", "0):\n        share"),
         ("methods[0]", "methods[1]"),
@@ -122,10 +130,9 @@ CHAIN = {
         ("following(first, second, share)", "following(first, second, share)._replace(s1=first.s1, s2=first.s2)"),
         ("following(first, second, share)", "following(first, second, share)._replace(r3=first.s1)"),
         ("following(first, second, share)", "following(first, second, share)._replace(r3=0)"),
-        ("value for _, value", "kind for kind, _"),
-        ("log + second_log", "second_log + log"),
-        ("log + second_log", "log + log"),
-        ("log + second_log", "second_log"),
+        ("shown + second_run(following(first, second, share))[1]", "second_run(following(first, second, share))[1] + shown"),
+        ("shown + second_run(following(first, second, share))[1]", "shown + shown"),
+        ("shown + second_run", "second_run"),
         ("zip(*values)", "zip(*values[::2])"),
     ],
 }

@@ -42,7 +42,7 @@ def figures():
 
 
 # Accepted chains of all pairings: an input, a choice of masks for it, and the tables. At widths of 1 it is every choice, and where all
-# widths differ it is some.
+# widths differ it is some. b has no bits under method 2, and one under method 3.
 def accepted_chains():
     chance = random.Random(1)
     below = lambda width: chance.randrange(2**width)
@@ -156,14 +156,20 @@ def widths():
 
 # A column of shown values as one number for each value: a bit for each choice, 1 where the value is shown.
 def planes(column):
-    return [int(column.translate(bytes(48 + (byte == value) for byte in range(256))), 2) for value in range(4)]
+    return {value: int(column.translate(bytes(48 + (byte == value) for byte in range(256))), 2) for value in set(column)}
 
 
-# The pairs of positions in either log, or one in each, whose counts differ for two inputs. What they show is below 4.
+# How often two positions show each pair of values.
+def times(first, second):
+    both = ((u, v, (plane & other).bit_count()) for u, plane in first.items() for v, other in second.items())
+    return {(u, v): count for u, v, count in both if count}
+
+
+# The pairs of positions in either log, or one in each, whose counts differ for two inputs.
 def differing(shown, other):
     shown, other = list(map(planes, shown)), list(map(planes, other))
     for i, j in itertools.combinations_with_replacement(range(len(shown)), 2):
-        if any((shown[i][u] & shown[j][v]).bit_count() != (other[i][u] & other[j][v]).bit_count() for u in range(4) for v in range(4)):
+        if times(shown[i], shown[j]) != times(other[i], other[j]):
             yield i, j
 
 
@@ -180,12 +186,22 @@ def choices():
             yield f"inputs of methods {methods} at {secret}", {x0 ^ r1 ^ r2 for x0, r1, r2 in zip(*shown[:3])}, {secret}
 
 
+# Widths, tables, inputs and pairings that are counted. The table of three bits is their majority, which is not linear.
+COUNTED = [
+    ((1, 1, 1), ONE_BIT, (0, 1), PAIRINGS),
+    ((2, 1, 1), [TABLE_21, [0, 1]], (0, 1, 2, 3), PAIRINGS),
+    ((2, 2, 1), [TABLE_A, TABLE_21], (0, 3), PAIRINGS),
+    ((3, 1, 1), [[0, 0, 0, 1, 0, 1, 1, 1], [1, 0]], (0, 7), PAIRINGS[:1]),
+]
+
+
 def counts():
-    for widths, tables in (((1, 1, 1), ONE_BIT), ((2, 1, 1), [TABLE_21, [0, 1]])):
-        for methods in PAIRINGS:
-            shown = [chain.shown_values(methods, widths, tables, secret) for secret in range(2 ** widths[0])]
-            for secret in range(1, len(shown)):
-                yield f"widths {widths}, methods {methods}, inputs 0 and {secret}", list(differing(shown[0], shown[secret])), []
+    for widths, tables, secrets, pairings in COUNTED:
+        for methods in pairings:
+            shown = chain.shown_values(methods, widths, tables, 0)
+            for secret in secrets[1:]:
+                other = chain.shown_values(methods, widths, tables, secret)
+                yield f"widths {widths}, methods {methods}, inputs 0 and {secret}", list(differing(shown, other)), []
 
 
 def pair_counts(shown, i, j):
