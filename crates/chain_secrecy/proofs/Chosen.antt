@@ -52,7 +52,7 @@ module _ (k : Boxes) (one : Hiding (method-of (k .first-method))) (two : Hiding 
   module _ (c : ℕ → ℕ) (inside : Within (chain-widths k) c) where
     pub first-within : Within ws (first-masks c)
     unfolding chain-widths
-    first-within = subst (λ (masks : ℕ). Within ws (appended masks c (λ i. 0))) six (within-first ws (drop 2 vs) c inside)
+    first-within = subst (λ (masks : ℕ). Within ws (appended masks c (λ i. 0))) six (within-first ws _ c inside)
 
     pub first-drawn : Drawn (method-of (k .first-method)) (k .input) (k .between) (first-masks c)
     unfolding mask-widths
@@ -61,7 +61,7 @@ module _ (k : Boxes) (one : Hiding (method-of (k .first-method))) (two : Hiding 
     pub second-within : Within vs (second-masks c)
     unfolding chain-widths
     second-within =
-        let own = subst (λ (masks : ℕ). Within (drop 2 vs) (λ i. c (masks + i))) six (within-behind ws (drop 2 vs) c inside) in
+        let own = subst (λ (masks : ℕ). Within (drop 2 vs) (λ i. c (masks + i))) six (within-behind ws _ c inside) in
         subst (λ (widths : List ℕ). Within widths (second-masks c)) inputs (within-more (first-drawn .s1) (within-more (first-drawn .s2) own))
 
     pub second-drawn : Drawn (method-of (k .second-method)) (k .between) (k .output) (second-masks c)
