@@ -3,3 +3,4 @@ pub mod Checking
 pub mod Accepted
 pub mod Replies
 pub mod Promises
+pub mod Order

@@ -1,23 +1,15 @@
 -- What a chained call hands back and leaves behind, refused and accepted, from what its parts told.
 use mathlib.Core.Path.{_≡_, refl, sym, ap, _∙_}
-use mathlib.Core.Bool.{true}
 use mathlib.Core.List.{List}
-use Prim.Native.Nat.{ℕ, zero, suc, _^_, _≤_}
-use mir.Syntax.{w32}
-use mir.Val.{Fits}
-use lib.ListN.{length}
+use Prim.Native.Nat.{ℕ, zero, suc}
 use Rattle.refusals.specs.Left.{left}
 use Rattle.refusals.proofs.Left.{left-refused, left-accepted}
-use Rattle.buffers.specs.Written.{in-front}
 use Rattle.lookup.specs.declared.Case.{Case}
 use Rattle.lookup.specs.declared.Called.{Called}
-use Rattle.lookup.specs.Bounded.{Bounded}
-use Rattle.lookup.specs.Methods.{known}
-use Rattle.lookup.specs.Call.{answer, scratch-after, log-of, log-length, scratch-length}
+use Rattle.lookup.specs.Call.{answer, log-length}
 use Rattle.lookup.specs.Refusals.{logged-refusal}
 use Rattle.calls.specs.Reply.{called, logged-reply, logged-scratch, logged-log}
 use Rattle.chain.specs.declared.Second.{Second}
-use Rattle.chain.specs.declared.Chained.{Chained}
 use Rattle.chain.specs.Lent.{lent}
 use Rattle.chain.specs.Chain.{second-case, following, chained, chain-refusal, chain-reply}
 use Rattle.chain.specs.Chain.{chain-first-scratch, chain-second-scratch, chain-first-log, chain-second-log}

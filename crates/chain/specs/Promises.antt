@@ -1,19 +1,16 @@
 -- What is promised of a chained call. Each is a type; its proof stands in proofs/Promises.antt.
 use mathlib.Core.Path.{_≡_}
-use mathlib.Core.Bool.{Bool, false}
-use mathlib.Core.List.{List, [], _∷_}
-use Prim.Native.Nat.{ℕ, _^_}
-use lib.Dec.{leb}
+use Prim.Native.Nat.{_^_, _≤_, _<_}
 use Rattle.bits.specs.Xor.{_⊕_}
 use Rattle.refusals.specs.Checks.{first-of}
-use Rattle.refusals.specs.Tests.{any-from}
 use Rattle.table.specs.Balanced.{at}
 use Rattle.lookup.specs.declared.Case.{Case}
-use Rattle.lookup.specs.Refusals.{box-checks, other-checks, logged-refusal}
+use Rattle.lookup.specs.declared.Called.{Called}
+use Rattle.lookup.specs.Refusals.{box-checks, logged-refusal}
 use Rattle.calls.specs.Reply.{logged-reply, logged-scratch, logged-log}
 use Rattle.chain.specs.declared.Second.{Second}
 use Rattle.chain.specs.Lent.{Lent}
-use Rattle.chain.specs.Chain.{following, chain-refusal, chain-reply, chain-first-scratch, chain-second-scratch}
+use Rattle.chain.specs.Chain.{second-case, chain-refusal, chain-reply, chain-first-scratch, chain-second-scratch}
 use Rattle.chain.specs.Chain.{chain-first-log, chain-second-log}
 
 -- the second share joined with the second's output masks is T[S[x]], where x is joined from the first call's shares
@@ -23,39 +20,48 @@ Share-right =
     chain-reply first second l .share ⊕ second .s1 ⊕ second .s2
     ≡ at (l .second-table) (at (l .first-table) (first .x0 ⊕ first .r1 ⊕ first .r2))
 
--- a chained call is accepted just where the logged call accepts the first case, and then the second's, and the widths between them agree
+-- and it is of the second's output width
+unfoldable pub Share-small : Type 0
+Share-small =
+    (first : Case) (second : Second) (l : Lent) → chain-refusal first second l ≡ 0 → chain-reply first second l .share < 2 ^ second .m
+
+-- the two logged calls, one after the other: what the first hands back, and the second's case with that share
+abbrev pub first-reply : Case → Lent → Called
+first-reply first l = logged-reply first (l .first-table) (l .first-scratch) (l .first-log)
+
+abbrev pub then-case : Case → Second → Lent → Case
+then-case first second l = second-case first second (first-reply first l .share)
+
+-- a chained call is accepted just where these two are, and the widths between them agree
 unfoldable pub Accepted-as-two : Type 0
 Accepted-as-two =
     (first : Case) (second : Second) (l : Lent) →
     (chain-refusal first second l ≡ 0 → (logged-refusal first (l .first-table) (l .first-scratch) (l .first-log) ≡ 0)
     × (first .m ≡ second .n)
-    × (logged-refusal (following first second (l .first-table)) (l .second-table) (l .second-scratch) (l .second-log) ≡ 0))
+    × (logged-refusal (then-case first second l) (l .second-table) (l .second-scratch) (l .second-log) ≡ 0))
     × (logged-refusal first (l .first-table) (l .first-scratch) (l .first-log) ≡ 0 → first .m ≡ second .n
-    → logged-refusal (following first second (l .first-table)) (l .second-table) (l .second-scratch) (l .second-log) ≡ 0
+    → logged-refusal (then-case first second l) (l .second-table) (l .second-scratch) (l .second-log) ≡ 0
     → chain-refusal first second l ≡ 0)
 
--- and then it hands back and leaves what the two logged calls would: what is promised of them is promised here
+-- and then it hands back and leaves what they would: what is promised of them is promised here
 unfoldable pub Left-as-two : Type 0
 Left-as-two =
     (first : Case) (second : Second) (l : Lent) → chain-refusal first second l ≡ 0 →
     (chain-reply first second l .share
-    ≡ logged-reply (following first second (l .first-table)) (l .second-table) (l .second-scratch) (l .second-log) .share)
-    × (chain-reply first second l .«first_count» ≡ logged-reply first (l .first-table) (l .first-scratch) (l .first-log) .count)
+    ≡ logged-reply (then-case first second l) (l .second-table) (l .second-scratch) (l .second-log) .share)
+    × (chain-reply first second l .«first_count» ≡ first-reply first l .count)
     × (chain-reply first second l .«second_count»
-    ≡ logged-reply (following first second (l .first-table)) (l .second-table) (l .second-scratch) (l .second-log) .count)
+    ≡ logged-reply (then-case first second l) (l .second-table) (l .second-scratch) (l .second-log) .count)
     × (chain-first-scratch first second l ≡ logged-scratch first (l .first-table) (l .first-scratch) (l .first-log))
     × (chain-second-scratch first second l
-    ≡ logged-scratch (following first second (l .first-table)) (l .second-table) (l .second-scratch) (l .second-log))
+    ≡ logged-scratch (then-case first second l) (l .second-table) (l .second-scratch) (l .second-log))
     × (chain-first-log first second l ≡ logged-log first (l .first-table) (l .first-scratch) (l .first-log))
-    × (chain-second-log first second l
-    ≡ logged-log (following first second (l .first-table)) (l .second-table) (l .second-scratch) (l .second-log))
+    × (chain-second-log first second l ≡ logged-log (then-case first second l) (l .second-table) (l .second-scratch) (l .second-log))
 
--- where the second's 10 is reached, only its r3 can be too large: its other shares have passed as the first's answer, s1 and s2
+-- the second's 10 is its r3: where the first call is accepted, the widths agree and the second's 2 to 7 have passed, 10 is handed back just if
+-- r3 is too large
 unfoldable pub Ten-by-r3 : Type 0
 Ten-by-r3 =
-    (first : Case) (second : Second) (l : Lent) → first-of (box-checks first (l .first-table)) ≡ 0 → first .m ≡ second .n →
-    first-of (other-checks first (l .first-scratch) (l .first-log)) ≡ 0 →
-    any-from (2 ^ second .n)
-    (following first second (l .first-table) .x0 ∷ following first second (l .first-table) .r1 ∷ following first second (l .first-table) .r2
-    ∷ second .r3 ∷ [])
-    ≡ leb (2 ^ second .n) (second .r3)
+    (first : Case) (second : Second) (l : Lent) → logged-refusal first (l .first-table) (l .first-scratch) (l .first-log) ≡ 0
+    → first .m ≡ second .n → first-of (box-checks (then-case first second l) (l .second-table)) ≡ 0 →
+    (2 ^ second .n ≤ second .r3 → chain-refusal first second l ≡ 10) × (chain-refusal first second l ≡ 10 → 2 ^ second .n ≤ second .r3)

@@ -28,8 +28,8 @@ pub struct Chained {
     pub second_count: u32,
 }
 
-// Both lookups. It is for the bench. All checks are made before anything is written, and both scratches must begin with zeros and are left
-// used, as in the logged call.
+// Both lookups. As the logged call it is for the bench: it returns the second answer share and the counts of both logs' entries. All checks of
+// both come before anything is written. Both scratches must begin with zeros, and are left used: the caller clears them (`buffers::clear`).
 pub fn chained_call(
     first: Case,
     second: Second,
@@ -138,11 +138,11 @@ fn run_second(
     ensures { λ _. ⌜ now (log .exit) ≡ logged-log (second-case first second share) (now (table .entry)) (now (scratch .entry))
         (now (log .entry)) ⌝ }
 {
-    calls::run_accepted(following(first, second, share), table, scratch, log)
+    calls::run_accepted(second_case(first, second, share), table, scratch, log)
 }
 
 // The second call's case, where the first has answered with the share.
-fn following(first: Case, second: Second, share: u32) -> Case
+fn second_case(first: Case, second: Second, share: u32) -> Case
     ensures { λ r. ⌜ r ≡ second-case first second share ⌝ }
 {
     Case {
@@ -174,7 +174,7 @@ fn refused(
     ensures { λ r. ⌜ r ≡ chain-refusal first second (lent (now («first_table» .entry)) (now («second_table» .entry)) (now («first_scratch» .entry))
         (now («second_scratch» .entry)) (now («first_log» .entry)) (now («second_log» .entry))) ⌝ }
 {
-    let later = following(first, second, 0);
+    let later = second_case(first, second, 0);
     let of_first_box = call_checks::refused_box(first, first_table);
     if of_first_box != 0 {
         return of_first_box;

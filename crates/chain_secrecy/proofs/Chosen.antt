@@ -1,8 +1,8 @@
 -- A chain's choice is a choice of each of its calls: the first's six masks, and for the second the first's s1 and s2 before its own four.
-use mathlib.Core.Path.{_≡_, refl, sym, ap, subst, _∙_}
+use mathlib.Core.Path.{_≡_, sym, ap, subst, _∙_}
 use mathlib.Core.Bool.{true}
-use mathlib.Core.List.{List, [], _∷_, _++_, map}
-use Prim.Native.Nat.{ℕ, _+_, _^_, _<_}
+use mathlib.Core.List.{List, _∷_, map}
+use Prim.Native.Nat.{ℕ, _+_}
 use lib.ListN.{length, drop, length-map}
 use Rattle.bits.specs.Xor.{_⊕_}
 use Rattle.bits.proofs.Xor.{xors}
@@ -10,7 +10,6 @@ use Rattle.counting.specs.Choice.{_▸_, Within}
 use Rattle.counting.proofs.Choice.{within-more}
 use Rattle.counting.proofs.Append.{appended, within-first, within-behind}
 use Rattle.table.specs.Balanced.{at}
-use Rattle.lookup.specs.declared.Case.{Case}
 use Rattle.lookup.specs.Case.{Q}
 use Rattle.lookup.specs.Row.{masked}
 use Rattle.lookup.specs.Method.{class-width}

@@ -1,6 +1,6 @@
 -- The counts in numbers: how many choices there are, and counts that compute to what is promised.
 use mathlib.Core.Path.{_≡_, refl, _∙_}
-use Prim.Native.Nat.{ℕ, _+_, _*_, _^_}
+use Prim.Native.Nat.{ℕ, _+_, _*_}
 use native.Mathlib.Omega.{arith}
 use lib.Pow.{pow-add}
 use Rattle.bits.specs.Xor.{_⊕_}
@@ -12,6 +12,7 @@ use Rattle.lookup.specs.Case.{Q}
 use Rattle.lookup.specs.Entry.{entry, value-of}
 use Rattle.lookup.specs.Row.{masked}
 use Rattle.lookup.specs.Method2.{r-prime, scratch-2, answer-2}
+use Rattle.lookup.specs.Method3.{comparison-table, place-3, compared, registers-3, answer-3}
 use Rattle.lookup.specs.Methods.{found, method-of}
 use Rattle.lookup.specs.Call.{answer, log-of}
 use Rattle.lookup.specs.Layout.{pass-lines, passes-lines, lines}
@@ -36,5 +37,6 @@ choices-counted n m m′ =
 
 pub counts-computed : Counts-computed
 unfolding Counts-computed chain-count count-by defined-logs chain-widths first-case second-own following second-case over sum chosen-case
-    mask-widths value-at log-of lines passes-lines pass-lines method-of found Q entry value-of masked r-prime scratch-2 answer-2 answer at _⊕_
+    mask-widths value-at log-of lines passes-lines pass-lines method-of found Q entry value-of masked r-prime scratch-2 answer-2
+    comparison-table place-3 compared registers-3 answer-3 answer at _⊕_
 counts-computed = refl

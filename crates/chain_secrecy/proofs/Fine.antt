@@ -9,8 +9,6 @@ use Rattle.probing.specs.Expression.{Expression, System}
 use Rattle.probing.specs.Test.{fine, all-fine}
 use Rattle.lookup.specs.Layout.{Layout}
 use Rattle.lookup.specs.Method.{Method, class-width}
-use Rattle.lookup.specs.Method2.{method-2}
-use Rattle.lookup.specs.Method3.{method-3}
 use Rattle.lookup.specs.Methods.{methods}
 use Rattle.lookup.proofs.Each.{Each, none, more, each-split, each-all, each-map}
 use Rattle.secrecy.specs.Expressions.{Shown}

@@ -8,7 +8,7 @@ use lib.ListN.{length}
 use Rattle.refusals.specs.Checks.{first-of}
 use Rattle.refusals.specs.Left.{left}
 use Rattle.refusals.proofs.Checks.{numbered, none-behind, none-before}
-use Rattle.counting.specs.Choice.{over, Within}
+use Rattle.counting.specs.Choice.{Within}
 use Rattle.counting.proofs.Over.{over-ext}
 use Rattle.table.specs.Balanced.{at}
 use Rattle.table.specs.Refusals.{table-refusal}
@@ -20,7 +20,7 @@ use Rattle.lookup.specs.Call.{log-of, log-length}
 use Rattle.lookup.specs.Refusals.{scratch-checks, log-checks, case-refusal, logged-refusal}
 use Rattle.lookup.specs.Promises.{Log-long}
 use Rattle.lookup.proofs.Methods.{of-each, known-2-or-3}
-use Rattle.lookup.proofs.Accepted.{Taken, not-refused}
+use Rattle.lookup.proofs.Accepted.{not-refused}
 use Rattle.lookup.proofs.Refused.{Clean, scratch-not-refused, log-not-refused, plain-case, logged-plain}
 use Rattle.lookup.proofs.Promises.{log-long}
 use Rattle.secrecy.specs.Count.{single, chosen-case, value-at}
@@ -28,10 +28,11 @@ use Rattle.secrecy.proofs.Hiding.{Hiding, hiding}
 use Rattle.secrecy.proofs.Lent.{in-front-at, choice-taken}
 use Rattle.chain.specs.Lent.{Lent}
 use Rattle.chain.specs.Chain.{second-case, following, chain-refusal, chain-first-log, chain-second-log}
-use Rattle.chain.proofs.Accepted.{Passed, chain-passed, chain-accepted, lent-checks, chain-by-lent}
+use Rattle.chain.proofs.Accepted.{chain-passed, lent-checks, chain-by-lent}
 use Rattle.chain_secrecy.specs.Count.{Boxes, Which, first, second, entries, chain-widths, first-case, second-own}
 use Rattle.chain_secrecy.specs.Count.{defined-logs, left-logs, count-by, chain-count, chain-call-count}
 use Rattle.chain_secrecy.specs.Promises.{Paired, Chain-tells-nothing, Chained-call-tells-nothing, Chain-choices-accepted, Left-logs-counted}
+use Rattle.chain_secrecy.specs.Promises.{Chained-call-counted, Refusals-alike}
 use Rattle.chain_secrecy.proofs.Chosen.{first-masks, second-masks, first-within, second-within, following-chosen}
 use Rattle.chain_secrecy.proofs.Promises.{chain-tells-nothing}
 
@@ -86,11 +87,11 @@ log-whole c table scratch log e = log-long table c (plain-case c table scratch (
 pub left-logs-counted : Left-logs-counted
 unfolding Left-logs-counted left-logs defined-logs entries chain-first-log chain-second-log left following second-case first-case second-own
     chosen-case
-left-logs-counted l k x c first i e h =
+left-logs-counted l k x c first i h e =
     let whole = chain-passed (first-case k x c) (second-own k c) _ _ _ _ _ _ e in
     let log = log-of (first-case k x c) (l .first-table) in
     rw e (in-front-at log (l .first-log) i (rw (log-whole (first-case k x c) (l .first-table) _ _ (whole .first-accepted)) h))
-left-logs-counted l k x c second i e h =
+left-logs-counted l k x c second i h e =
     let whole = chain-passed (first-case k x c) (second-own k c) _ _ _ _ _ _ e in
     let later = following (first-case k x c) (second-own k c) (l .first-table) in
     rw e
@@ -118,26 +119,35 @@ chain-choices-accepted l k x c S-accepted T-accepted paired hx inside fit =
     (lent-taken one (l .first-scratch) (l .first-log) (record { room = fit .0; clean = fit .1 }) (fit .2))
     ∙ lent-taken two (l .second-scratch) (l .second-log) (record { room = fit .3; clean = fit .4 }) (fit .5)
 
+pub refusals-alike : Refusals-alike
+unfolding Refusals-alike
+refusals-alike l k x y c d S-accepted T-accepted paired hx hy inside others =
+    by-lent l k S-accepted T-accepted paired x hx c inside ∙ sym (by-lent l k S-accepted T-accepted paired y hy d others)
+
+-- where nothing is refused, the logs are the counted ones
+counted : (l : Lent) (k : Boxes) (x : ℕ) (w w′ : Which) (i j u v : ℕ)
+    → ((c : ℕ → ℕ) → Within (chain-widths k) c → chain-refusal (first-case k x c) (second-own k c) l ≡ 0) → i < entries k w
+    → j < entries k w′ → chain-call-count l k x w w′ i j u v ≡ chain-count (l .first-table) (l .second-table) k x w w′ i j u v
+unfolding Left-logs-counted chain-call-count chain-count count-by value-at
+counted l k x w w′ i j u v none hi hj =
+    let same : (c : ℕ → ℕ) → Within (chain-widths k) c → (w : Which) (p : ℕ) → p < entries k w
+    → value-at (left-logs l k x c w) p ≡ value-at (defined-logs (l .first-table) (l .second-table) k x c w) p
+    = λ c inside w p h. ap value-of (left-logs-counted l k x c w p h (none c inside)) in
+    over-ext (chain-widths k) (λ c inside. rw (same c inside w i hi, same c inside w′ j hj))
+
+pub chained-call-counted : Chained-call-counted
+unfolding Chained-call-counted Chain-choices-accepted
+chained-call-counted l k x w w′ i j u v S-accepted T-accepted paired hx fit hi hj =
+    counted l k x w w′ i j u v (λ c inside. chain-choices-accepted l k x c S-accepted T-accepted paired hx inside fit) hi hj
+
 pub chained-call-tells-nothing : Chained-call-tells-nothing
-unfolding Chained-call-tells-nothing Left-logs-counted Chain-tells-nothing chain-call-count chain-count count-by value-at left-logs
-    chain-first-log chain-second-log left
+unfolding Chained-call-tells-nothing Chain-tells-nothing chain-call-count count-by left-logs chain-first-log chain-second-log left
 chained-call-tells-nothing l k x y w w′ i j u v S-accepted T-accepted paired hx hy hi hj =
     by-rest (rest l k S-accepted T-accepted paired) refl
   where
     number : (z : ℕ) → z < 2 ^ k .input → (c : ℕ → ℕ) → Within (chain-widths k) c
         → chain-refusal (first-case k z c) (second-own k c) l ≡ rest l k S-accepted T-accepted paired
     number z hz c inside = by-lent l k S-accepted T-accepted paired z hz c inside
-
-    -- accepted: the logs are the counted ones
-    at-position : rest l k S-accepted T-accepted paired ≡ 0 → (z : ℕ) → z < 2 ^ k .input → (c : ℕ → ℕ) → Within (chain-widths k) c
-        → (w : Which) (p : ℕ) → p < entries k w
-        → value-at (left-logs l k z c w) p ≡ value-at (defined-logs (l .first-table) (l .second-table) k z c w) p
-    at-position none z hz c inside w p h = ap value-of (left-logs-counted l k z c w p (number z hz c inside ∙ none) h)
-
-    counted : rest l k S-accepted T-accepted paired ≡ 0 → (z : ℕ) → z < 2 ^ k .input
-        → chain-call-count l k z w w′ i j u v ≡ chain-count (l .first-table) (l .second-table) k z w w′ i j u v
-    counted none z hz =
-        over-ext (chain-widths k) (λ c inside. rw (at-position none z hz c inside w i hi, at-position none z hz c inside w′ j hj))
 
     -- refused: the logs are the lent ones
     lent-log : Which → List ℕ
@@ -152,11 +162,12 @@ chained-call-tells-nothing l k x y w w′ i j u v S-accepted T-accepted paired h
     by-rest : (r : ℕ) → rest l k S-accepted T-accepted paired ≡ r
         → chain-call-count l k x w w′ i j u v ≡ chain-call-count l k y w w′ i j u v
     by-rest zero none =
-        counted none x hx
+        counted l k x w w′ i j u v (λ c inside. number x hx c inside ∙ none) hi hj
         ∙ chain-tells-nothing (l .first-table) (l .second-table) k x y w w′ i j u v
         (table-accepted (k .input) (k .between) (l .first-table) S-accepted .balance)
         (table-accepted (k .between) (k .output) (l .second-table) T-accepted .balance) paired hx hy
-        ∙ sym (counted none y hy)
+        ∙ sym (counted l k y w w′ i j u v (λ c inside. number y hy c inside ∙ none) hi hj)
     by-rest (suc r) some =
-        over-ext (chain-widths k) (λ c inside.
+        over-ext (chain-widths k)
+        (λ c inside.
         rw (kept r some x hx c inside w, kept r some x hx c inside w′, kept r some y hy c inside w, kept r some y hy c inside w′))

@@ -22,7 +22,7 @@ use Rattle.secrecy.proofs.Fine.{line}
 use Rattle.secrecy.proofs.Shown.{Stands}
 use Rattle.secrecy.proofs.Observed.{observer, at-line}
 use Rattle.chain_secrecy.specs.Count.{Boxes, Which, first, second, behind, chain-widths, first-case, defined-logs, count-by, chain-count}
-use Rattle.chain_secrecy.specs.Expressions.{chain-width, chain-system, places, chain-setting, chain-secrets}
+use Rattle.chain_secrecy.specs.Expressions.{chain-system, places, chain-setting, chain-secrets}
 use Rattle.chain_secrecy.proofs.Fine.{Pairing, paired-rows}
 use Rattle.chain_secrecy.proofs.Chosen.{first-drawn, second-drawn, following-chosen}
 

@@ -1,5 +1,4 @@
 -- The third demand of a chain holds.
-use Prim.Native.Nat.{_^_}
 use Rattle.probing.proofs.Sound.{alike}
 use Rattle.table.proofs.Balanced.{balanced-below}
 use Rattle.table.proofs.Even.{balanced-even}
@@ -7,7 +6,7 @@ use Rattle.lookup.specs.Methods.{method-of}
 use Rattle.lookup.proofs.Methods.{of-each, known-2-or-3}
 use Rattle.chain_secrecy.specs.Expressions.{chain-system, chain-setting}
 use Rattle.chain_secrecy.specs.Promises.{Chain-tells-nothing, Even-chain-tells-nothing}
-use Rattle.chain_secrecy.proofs.Fine.{Pairing, paired-rows, pairings, any-two}
+use Rattle.chain_secrecy.proofs.Fine.{paired-rows, pairings, any-two}
 use Rattle.chain_secrecy.proofs.Observed.{turns, assumed, counts-equal}
 
 pub even-chain-tells-nothing : Even-chain-tells-nothing

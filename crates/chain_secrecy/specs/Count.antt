@@ -68,12 +68,12 @@ unfoldable pub left-logs : Lent → Boxes → (x : ℕ) → (choice : ℕ → �
 left-logs l k x c first = chain-first-log (first-case k x c) (second-own k c) l
 left-logs l k x c second = chain-second-log (first-case k x c) (second-own k c) l
 
--- how many choices put value u in entry i of log a and value v in entry j of log b; `logs` makes the two logs of a choice
-unfoldable pub count-by : (logs : (choice : ℕ → ℕ) → Which → List ℕ) → Boxes → (a b : Which) → (i j u v : ℕ) → ℕ
-count-by logs k a b i j u v = over (chain-widths k) (λ c. cond (eqb (value-at (logs c a) i) u && eqb (value-at (logs c b) j) v) 1 0)
+-- how many choices put value u in entry i of log w and value v in entry j of log w′; `logs` makes the two logs of a choice
+unfoldable pub count-by : (logs : (choice : ℕ → ℕ) → Which → List ℕ) → Boxes → (w w′ : Which) → (i j u v : ℕ) → ℕ
+count-by logs k w w′ i j u v = over (chain-widths k) (λ c. cond (eqb (value-at (logs c w) i) u && eqb (value-at (logs c w′) j) v) 1 0)
 
-unfoldable pub chain-count : (first-table second-table : List ℕ) → Boxes → (x : ℕ) → (a b : Which) → (i j u v : ℕ) → ℕ
+unfoldable pub chain-count : (first-table second-table : List ℕ) → Boxes → (x : ℕ) → (w w′ : Which) → (i j u v : ℕ) → ℕ
 chain-count S T k x = count-by (defined-logs S T k x) k
 
-unfoldable pub chain-call-count : Lent → Boxes → (x : ℕ) → (a b : Which) → (i j u v : ℕ) → ℕ
+unfoldable pub chain-call-count : Lent → Boxes → (x : ℕ) → (w w′ : Which) → (i j u v : ℕ) → ℕ
 chain-call-count l k x = count-by (left-logs l k x) k

@@ -26,7 +26,7 @@ class-behind (suc zero) = 4
 class-behind (suc (suc class)) = suc (suc class)
 
 -- masks of the classes that the two methods draw, the second's r1 and r2 not again; the secrets x, S[x] and T[S[x]]; and two tables
-abbrev pub chain-system : (first second : Method) → System
+abbrev pub chain-system : (f g : Method) → System
 chain-system f g =
     record {
       masks = f .mask-classes ++ map class-behind (drop 2 (g .mask-classes));

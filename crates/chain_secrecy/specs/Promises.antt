@@ -10,7 +10,7 @@ use Rattle.counting.specs.Choice.{over, Within}
 use Rattle.table.specs.Balanced.{at, balanced}
 use Rattle.table.specs.Even.{Even}
 use Rattle.table.specs.Refusals.{table-refusal}
-use Rattle.lookup.specs.Call.{log-length, scratch-length}
+use Rattle.lookup.specs.Call.{scratch-length}
 use Rattle.lookup.specs.Refusals.{dirty}
 use Rattle.chain.specs.Lent.{Lent}
 use Rattle.chain.specs.Chain.{chain-refusal}
@@ -25,24 +25,25 @@ Paired k = ((k .first-method ≡ 2) ⊎ (k .first-method ≡ 3)) × ((k .second-
 -- and any two inputs of the first table: as many choices of all masks put those values there for the one input as for the other
 unfoldable pub Chain-tells-nothing : Type 0
 Chain-tells-nothing =
-    (S T : List ℕ) (k : Boxes) (x y : ℕ) (a b : Which) (i j u v : ℕ) → balanced (k .input) (k .between) S ≡ true
+    (S T : List ℕ) (k : Boxes) (x y : ℕ) (w w′ : Which) (i j u v : ℕ) → balanced (k .input) (k .between) S ≡ true
     → balanced (k .between) (k .output) T ≡ true → Paired k → x < 2 ^ k .input → y < 2 ^ k .input →
-    chain-count S T k x a b i j u v ≡ chain-count S T k y a b i j u v
+    chain-count S T k x w w′ i j u v ≡ chain-count S T k y w w′ i j u v
 
 -- the same for every two even tables with entries of their output's width
 unfoldable pub Even-chain-tells-nothing : Type 0
 Even-chain-tells-nothing =
-    (S T : List ℕ) (k : Boxes) (x y : ℕ) (a b : Which) (i j u v : ℕ) → Even (k .input) (at S) → ((z : ℕ) → at S z < 2 ^ k .between)
+    (S T : List ℕ) (k : Boxes) (x y : ℕ) (w w′ : Which) (i j u v : ℕ) → Even (k .input) (at S) → ((z : ℕ) → at S z < 2 ^ k .between)
     → Even (k .between) (at T) → ((z : ℕ) → at T z < 2 ^ k .output) → Paired k → x < 2 ^ k .input → y < 2 ^ k .input →
-    chain-count S T k x a b i j u v ≡ chain-count S T k y a b i j u v
+    chain-count S T k x w w′ i j u v ≡ chain-count S T k y w w′ i j u v
 
--- the same of the logs that the chained call leaves, whatever scratches and logs are lent, the same for every choice, refused ones too
+-- the same of the logs that the chained call leaves, whatever scratches and logs are lent, those that are refused too; the same ones are lent
+-- for every choice
 unfoldable pub Chained-call-tells-nothing : Type 0
 Chained-call-tells-nothing =
-    (l : Lent) (k : Boxes) (x y : ℕ) (a b : Which) (i j u v : ℕ) → table-refusal (k .input) (k .between) (l .first-table) ≡ 0
+    (l : Lent) (k : Boxes) (x y : ℕ) (w w′ : Which) (i j u v : ℕ) → table-refusal (k .input) (k .between) (l .first-table) ≡ 0
     → table-refusal (k .between) (k .output) (l .second-table) ≡ 0 → Paired k → x < 2 ^ k .input → y < 2 ^ k .input
-    → i < entries k a → j < entries k b →
-    chain-call-count l k x a b i j u v ≡ chain-call-count l k y a b i j u v
+    → i < entries k w → j < entries k w′ →
+    chain-call-count l k x w w′ i j u v ≡ chain-call-count l k y w w′ i j u v
 
 -- both calls are lent scratch and a log that are long enough, and the scratches are clean
 abbrev pub Lent-fit : Boxes → Lent → Type 0
@@ -65,9 +66,25 @@ Chain-choices-accepted =
 -- and for every accepted choice, each entry below a log's length that the chained call leaves is the counted one
 unfoldable pub Left-logs-counted : Type 0
 Left-logs-counted =
-    (l : Lent) (k : Boxes) (x : ℕ) (choice : ℕ → ℕ) (w : Which) (i : ℕ) → chain-refusal (first-case k x choice) (second-own k choice) l ≡ 0
-    → i < entries k w →
+    (l : Lent) (k : Boxes) (x : ℕ) (choice : ℕ → ℕ) (w : Which) (i : ℕ) → i < entries k w
+    → chain-refusal (first-case k x choice) (second-own k choice) l ≡ 0 →
     at (left-logs l k x choice w) i ≡ at (defined-logs (l .first-table) (l .second-table) k x choice w) i
+
+-- so the count of the logs that the call leaves is that of the logs as they are defined
+unfoldable pub Chained-call-counted : Type 0
+Chained-call-counted =
+    (l : Lent) (k : Boxes) (x : ℕ) (w w′ : Which) (i j u v : ℕ) → table-refusal (k .input) (k .between) (l .first-table) ≡ 0
+    → table-refusal (k .between) (k .output) (l .second-table) ≡ 0 → Paired k → x < 2 ^ k .input → Lent-fit k l
+    → i < entries k w → j < entries k w′ →
+    chain-call-count l k x w w′ i j u v ≡ chain-count (l .first-table) (l .second-table) k x w w′ i j u v
+
+-- whether a chained call is refused, and by what, depends neither on its input nor on its masks, where these have their widths
+unfoldable pub Refusals-alike : Type 0
+Refusals-alike =
+    (l : Lent) (k : Boxes) (x y : ℕ) (choice other : ℕ → ℕ) → table-refusal (k .input) (k .between) (l .first-table) ≡ 0
+    → table-refusal (k .between) (k .output) (l .second-table) ≡ 0 → Paired k → x < 2 ^ k .input → y < 2 ^ k .input
+    → Within (chain-widths k) choice → Within (chain-widths k) other →
+    chain-refusal (first-case k x choice) (second-own k choice) l ≡ chain-refusal (first-case k y other) (second-own k other) l
 
 -- how many choices there are: 2^(3n + 3m + 2m') under method 2 twice, twice as many for each call under method 3
 unfoldable pub Choices-counted : Type 0
@@ -77,15 +94,18 @@ Choices-counted =
     × (over (chain-widths (boxes 3 2 n m m′)) (λ c. 1) ≡ 2 * 2 ^ (3 * n + 3 * m + 2 * m′))
     × (over (chain-widths (boxes 3 3 n m m′)) (λ c. 1) ≡ 4 * 2 ^ (3 * n + 3 * m + 2 * m′))
 
--- the count in numbers, with the table 1, 0 twice under method 2. Of the 256 choices none shows the first's answer as 0 and the second's x0, which
--- is the same share, as 1; 64 show the first's r1 as 0 and the second's r1, its s1, as 0. With the table 0, 0, 0, 1 first, which is not
--- balanced, there are 2048 choices: the masked entry of turn 0 and the first's answer, as the second's x0, are both 0 for 768 of them where the
--- input is 0, and for 256 where it is 3
+-- The count in numbers, with the table 1, 0 second, and first unless another is named. Under method 2 twice there are 256 choices: none shows
+-- the first's answer as 0 and the second's x0, which is the same share, as 1; 64 show the first's r1 as 0 and the second's r1, which is the
+-- first's s1, as 0. Under method 3 twice there are 1024: 256 show the second's b and its comparison of turn 0 as 0. With the table 0, 1, 1, 0
+-- first there are 2048: 256 show the first's x0 as 3 and the second's answer as 1. With 0, 0, 0, 1 first, which is not balanced, the masked entry
+-- of turn 0 and the second's x0 are both 0 for 768 of as many where the input is 0, and for 256 where it is 3
 unfoldable pub Counts-computed : Type 0
 Counts-computed =
     chain-count (1 ∷ 0 ∷ []) (1 ∷ 0 ∷ []) (boxes 2 2 1 1 1) 0 first second 21 0 0 1
     ∷ chain-count (1 ∷ 0 ∷ []) (1 ∷ 0 ∷ []) (boxes 2 2 1 1 1) 0 first second 1 1 0 0
+    ∷ chain-count (1 ∷ 0 ∷ []) (1 ∷ 0 ∷ []) (boxes 3 3 1 1 1) 1 second second 5 12 0 0
+    ∷ chain-count (0 ∷ 1 ∷ 1 ∷ 0 ∷ []) (1 ∷ 0 ∷ []) (boxes 2 2 2 1 1) 1 first second 0 21 3 1
     ∷ chain-count (0 ∷ 0 ∷ 0 ∷ 1 ∷ []) (1 ∷ 0 ∷ []) (boxes 2 2 2 1 1) 0 first second 13 0 0 0
     ∷ chain-count (0 ∷ 0 ∷ 0 ∷ 1 ∷ []) (1 ∷ 0 ∷ []) (boxes 2 2 2 1 1) 3 first second 13 0 0 0
     ∷ []
-    ≡ 0 ∷ 64 ∷ 768 ∷ 256 ∷ []
+    ≡ 0 ∷ 64 ∷ 256 ∷ 256 ∷ 768 ∷ 256 ∷ []

@@ -1,11 +1,11 @@
 -- The laws of a list of checks, as code that goes through it needs them.
 use mathlib.Core.Path.{_≡_, refl, sym, ap}
-use mathlib.Core.Bool.{Bool, true, false, _&&_, cond, and-eq-true-iff}
+use mathlib.Core.Bool.{Bool, true, false, not, _&&_, cond, and-eq-true-iff}
 use mathlib.Core.List.{List, [], _∷_, _++_}
 use Prim.Native.Nat.{ℕ, suc, _≤_, _<_}
 use native.Mathlib.Omega.{arith}
-use borrow.Author.Tests.{leb-true, ltb-true}
-use lib.Dec.{leb, ltb}
+use borrow.Author.Tests.{leb-true, ltb-true, eqb-false, not-true}
+use lib.Dec.{eqb, leb, ltb}
 use Rattle.refusals.specs.Checks.{Check, _when_, first-of}
 
 -- the first check applies
@@ -79,6 +79,22 @@ pub none-between : (bs cs ds : List Check) → numbered cs ≡ true → first-of
 unfolding first-of
 none-between [] cs ds h e = none-before cs ds h e
 none-between (b ∷ bs) cs ds h e = ap (cond (b .applies) (b .number)) (none-between bs cs ds h e)
+
+-- no check has the number, and so it is not handed back
+unfoldable pub without : (number : ℕ) → List Check → Bool
+without k [] = true
+without k (c ∷ cs) = not (eqb (c .number) k) && without k cs
+
+pub never : (k : ℕ) (cs : List Check) → without (suc k) cs ≡ true → first-of cs ≡ suc k → ⊥
+unfolding first-of without
+never k [] h e = absurd (omega arith)
+never k (c ∷ cs) h e =
+    let both = and-eq-true-iff (not (eqb (c .number) (suc k))) (without (suc k) cs) .0 h in
+    either (c .applies) (eqb-false _ _ (not-true _ (both .0))) (never k cs (both .1)) e
+  where
+    either : (t : Bool) {m r : ℕ} → (m ≡ suc k → ⊥) → (r ≡ suc k → ⊥) → cond t m r ≡ suc k → ⊥
+    either true h l = h
+    either false h l = l
 
 -- no check has a number above the most, and so no number above it is handed back
 unfoldable pub up-to : (most : ℕ) → List Check → Bool
