@@ -6,6 +6,8 @@ import re
 import sys
 from pathlib import Path
 
+# As many as there are: one that is taken away together with its proof is missed here alone.
+LEAST = 79
 CRATES = Path(__file__).resolve().parents[2] / "crates"
 PROMISE = re.compile(r"^unfoldable pub ([A-Z][\w-]*) : Type 0$", re.MULTILINE)
 STATED = "-- a promise\nunfoldable pub Sum-right : Type 0\nSum-right = 1 ≡ 1\n"
@@ -37,8 +39,8 @@ def complaints():
         specs = text_of(crate / "specs")
         promises += len(PROMISE.findall(specs))
         yield from (f"{crate.name}: {name} is not proved" for name in unproved(specs, text_of(crate / "proofs")))
-    if promises < 60:
-        yield f"only {promises} promises were read"
+    if promises < LEAST:
+        yield f"only {promises} promises were read, not {LEAST}"
 
 
 def main():

@@ -134,5 +134,11 @@ CHAIN = {
         ("shown + second_run(following(first, second, share))[1]", "shown + shown"),
         ("shown + second_run", "second_run"),
         ("zip(*values)", "zip(*values[::2])"),
+        ("append(shown + ", "append(shown[:5] + bytes([share ^ first.s1 ^ first.s2]) + shown[6:] + "),
+        (
+            "values.append(shown + second_run(following(first, second, share))[1])",
+            "later = second_run(following(first, second, share))[1]\n"
+            "            values.append(shown + later[:1] + bytes([later[0] ^ later[1] ^ later[2]]) + later[2:])",
+        ),
     ],
 }

@@ -1,10 +1,11 @@
-# Wrong models, each of which tests/model/check.py must notice. Run: python3 tests/model/mutants.py (status 0 if the model itself passes
-# and every wrong one is noticed, 1 otherwise, with a line for each that is not).
+# Wrong models, each of which tests/model/check.py must notice, and a test program's cases too where CASES names them. Run: python3
+# tests/model/mutants.py (status 0 if the model itself passes and every wrong one is noticed, 1 otherwise, with a line for each that is not).
 import ast
 import sys
 from pathlib import Path
 
 import chain
+import chain_cases
 import check
 import counts
 import frame
@@ -27,6 +28,10 @@ SBOX = {
     "printed": [("%02x", "%2x"), ("%02x", "%02X"), ('" ".join(row)', '"".join(row)')],
 }
 
+# A program's cases, and the functions that its answers go through: each wrong edit of these changes an answer, so no case can go unseen
+# that alone notices one.
+CASES = {"chain": (chain_cases, ("following", "chain_refusal", "chained_call"))}
+
 
 # The text of each function of a module, and of a constant that has edits.
 def definitions(module, edits):
@@ -38,12 +43,12 @@ def definitions(module, edits):
         yield from ((name, ast.get_source_segment(source, node)) for name in names)
 
 
-# Whether the checks find a difference, or break off, with this definition in the place of the module's own.
-def noticed(module, name, text):
+# Whether some difference is found, or the search for one breaks off, with this definition in the place of the module's own.
+def noticed(module, name, text, differences):
     wrong, right = compile(text, name, "exec"), getattr(module, name)
     try:
         exec(wrong, vars(module))
-        return any(True for _ in check.differences(module.__name__))
+        return any(True for _ in differences())
     except Exception:
         return True
     finally:
@@ -53,13 +58,20 @@ def noticed(module, name, text):
 # What is wrong with the control of a module: it must pass as it is, and each of its functions must have edits, which are noticed.
 def complaints(module, edits):
     texts = dict(definitions(module, edits))
-    if any(True for _ in check.differences(module.__name__)):
+    differences = lambda: check.differences(module.__name__)
+    if any(True for _ in differences()):
         yield "the module itself differs"
+    cases, answering = CASES.get(module.__name__, (None, ()))
+    answers = [(case, cases.answer(case)) for case in cases.cases()] if cases else []
+    changed = lambda: (case for case, answer in answers if cases.answer(case) != answer)
     yield from (f"{name} has no edits" for name in texts if not edits.get(name))
     for name, pieces in edits.items():
         for old, new in pieces:
-            if not noticed(module, name, edited(texts[name], old, new)):
+            wrong = edited(texts[name], old, new)
+            if not noticed(module, name, wrong, differences):
                 yield f"{name}: {old!r} became {new!r}, and no check differs"
+            if name in answering and not noticed(module, name, wrong, changed):
+                yield f"{name}: {old!r} became {new!r}, and no case's answer differs"
 
 
 def main():

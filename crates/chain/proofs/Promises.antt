@@ -24,9 +24,10 @@ use Rattle.chain.specs.declared.Second.{Second}
 use Rattle.chain.specs.Lent.{Lent}
 use Rattle.chain.specs.Chain.{second-case, following, chained, chain-refusal, chain-reply}
 use Rattle.chain.specs.Chain.{chain-first-scratch, chain-second-scratch, chain-first-log, chain-second-log}
-use Rattle.chain.specs.Promises.{then-case, Share-right, Share-small, Accepted-as-two, Left-as-two, Ten-by-r3}
+use Rattle.chain.specs.Promises.{then-case, Share-right, Share-small, Refused-kept, Accepted-as-two, Left-as-two, Ten-by-r3}
 use Rattle.chain.proofs.Checking.{answer-fits, chain-parts}
 use Rattle.chain.proofs.Accepted.{Passed, chain-passed, chain-accepted}
+use Rattle.chain.proofs.Replies.{refused-reply, first-scratch-kept, second-scratch-kept, first-log-kept, second-log-kept}
 
 -- an accepted logged call's case is accepted
 case-accepted : (c : Case) (table scratch log : List ℕ) → logged-refusal c table scratch log ≡ 0 → case-refusal c table ≡ 0
@@ -60,6 +61,16 @@ unfolding Share-small Answer-small chain-reply chained following second-case
 share-small first second l e =
     let later = following first second (l .first-table) in
     rw e (answer-small (l .second-table) later (case-accepted later (l .second-table) _ _ (both first second l e .second-accepted)))
+
+pub refused-kept : Refused-kept
+unfolding Refused-kept
+refused-kept first second l h = (
+  sym (refused-reply first second _ _ _ _ _ _ _ refl h),
+  sym (first-scratch-kept first second _ _ _ _ _ _ _ refl h),
+  sym (second-scratch-kept first second _ _ _ _ _ _ _ refl h),
+  sym (first-log-kept first second _ _ _ _ _ _ _ refl h),
+  sym (second-log-kept first second _ _ _ _ _ _ _ refl h),
+)
 
 pub accepted-as-two : Accepted-as-two
 unfolding Accepted-as-two

@@ -25,6 +25,14 @@ unfoldable pub Share-small : Type 0
 Share-small =
     (first : Case) (second : Second) (l : Lent) → chain-refusal first second l ≡ 0 → chain-reply first second l .share < 2 ^ second .m
 
+-- a refused call hands back its number and zeros, and leaves both scratches and both logs as they were
+unfoldable pub Refused-kept : Type 0
+Refused-kept =
+    (first : Case) (second : Second) (l : Lent) → (chain-refusal first second l ≡ 0 → ⊥) →
+    (chain-reply first second l ≡ record { refusal = chain-refusal first second l; share = 0; «first_count» = 0; «second_count» = 0 })
+    × (chain-first-scratch first second l ≡ l .first-scratch) × (chain-second-scratch first second l ≡ l .second-scratch)
+    × (chain-first-log first second l ≡ l .first-log) × (chain-second-log first second l ≡ l .second-log)
+
 -- the two logged calls, one after the other: what the first hands back, and the second's case with that share
 abbrev pub first-reply : Case → Lent → Called
 first-reply first l = logged-reply first (l .first-table) (l .first-scratch) (l .first-log)

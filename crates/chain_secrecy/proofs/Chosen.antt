@@ -36,12 +36,12 @@ module _ (k : Boxes) (one : Hiding (method-of (k .first-method))) (two : Hiding 
   abbrev vs : List ℕ
   vs = mask-widths (k .second-method) (k .between) (k .output)
 
-  six : length ws ≡ 6
+  pub six : length ws ≡ 6
   unfolding mask-widths
   six = length-map (method-of (k .first-method) .mask-classes) (class-width (k .input) (k .between)) ∙ one .six
 
   -- the second's widths begin with those of r1 and r2
-  inputs : k .between ∷ k .between ∷ drop 2 vs ≡ vs
+  pub inputs : k .between ∷ k .between ∷ drop 2 vs ≡ vs
   unfolding mask-widths
   inputs =
       let widths = map (class-width (k .between) (k .output)) in

@@ -5,3 +5,4 @@ pub mod Observed
 pub mod Promises
 pub mod Lent
 pub mod Counts
+pub mod Whole

@@ -25,6 +25,9 @@ abbrev pub boxes : (first-method second-method input between output : ℕ) → B
 boxes first-method second-method input between output =
     record { first-method = first-method; second-method = second-method; input = input; between = between; output = output }
 
+abbrev pub boxes-of : Case → Second → Boxes
+boxes-of first second = boxes (first .method) (second .method) (first .n) (first .m) (second .m)
+
 -- one of the two calls
 pub data Which : Type 0 where
   first second : Which

@@ -6,15 +6,18 @@ use mathlib.Core.Bool.{true, false}
 use mathlib.Core.List.{List, [], _∷_}
 use Prim.Native.Nat.{ℕ, _+_, _*_, _^_, _≤_, _<_}
 use lib.ListN.{length}
+use Rattle.bits.specs.Xor.{_⊕_}
 use Rattle.counting.specs.Choice.{over, Within}
 use Rattle.table.specs.Balanced.{at, balanced}
 use Rattle.table.specs.Even.{Even}
 use Rattle.table.specs.Refusals.{table-refusal}
+use Rattle.lookup.specs.declared.Case.{Case}
 use Rattle.lookup.specs.Call.{scratch-length}
 use Rattle.lookup.specs.Refusals.{dirty}
+use Rattle.chain.specs.declared.Second.{Second}
 use Rattle.chain.specs.Lent.{Lent}
 use Rattle.chain.specs.Chain.{chain-refusal}
-use Rattle.chain_secrecy.specs.Count.{Boxes, boxes, Which, first, second, entries, chain-widths, first-case, second-own}
+use Rattle.chain_secrecy.specs.Count.{Boxes, boxes, boxes-of, Which, first, second, entries, chain-widths, first-case, second-own}
 use Rattle.chain_secrecy.specs.Count.{defined-logs, left-logs, chain-count, chain-call-count}
 
 -- all four pairings of methods
@@ -62,6 +65,13 @@ Chain-choices-accepted =
     → table-refusal (k .between) (k .output) (l .second-table) ≡ 0 → Paired k → x < 2 ^ k .input → Within (chain-widths k) choice
     → Lent-fit k l →
     chain-refusal (first-case k x choice) (second-own k choice) l ≡ 0
+
+-- and there is a choice for each chain that the call accepts, so that none is left out
+unfoldable pub Accepted-chain-chosen : Type 0
+Accepted-chain-chosen =
+    (l : Lent) (c : Case) (d : Second) → chain-refusal c d l ≡ 0 →
+    (choice : ℕ → ℕ) × Within (chain-widths (boxes-of c d)) choice
+    × (first-case (boxes-of c d) (c .x0 ⊕ c .r1 ⊕ c .r2) choice ≡ c) × (second-own (boxes-of c d) choice ≡ d)
 
 -- and for every accepted choice, each entry below a log's length that the chained call leaves is the counted one
 unfoldable pub Left-logs-counted : Type 0

@@ -6,7 +6,7 @@ use native.Mathlib.Nat.{add-assoc, zero-add, suc-add, mul-comm, le-trans}
 use native.Mathlib.Omega.{arith}
 use lib.ListN.{length, take, drop, take-append-drop}
 use Rattle.counting.specs.Choice.{_▸_, over, width, Within, total}
-use Rattle.counting.proofs.Choice.{within-none, within-more, within-rest}
+use Rattle.counting.proofs.Choice.{within-none, within-more, within-first-mask, within-rest}
 use Rattle.counting.proofs.Sum.{sum-ext, sum-times}
 use Rattle.counting.proofs.Over.{over-ext}
 
@@ -28,6 +28,11 @@ within-first (w ∷ ws) vs c h = within-more (h .each 0) (within-first ws vs (λ
 pub within-behind : (ws vs : List ℕ) (c : ℕ → ℕ) → Within (ws ++ vs) c → Within vs (λ i. c (length ws + i))
 within-behind [] vs c h = simp zero-add h
 within-behind (w ∷ ws) vs c h = simp suc-add (within-behind ws vs (λ i. c (suc i)) (within-rest h))
+
+-- and two choices that are within theirs are within both, one behind the other
+pub within-both : (ws vs : List ℕ) (c d : ℕ → ℕ) → Within ws c → Within vs d → Within (ws ++ vs) (appended (length ws) c d)
+within-both [] vs c d h k = k
+within-both (w ∷ ws) vs c d h k = within-more (within-first-mask h) (within-both ws vs (λ i. c (suc i)) d (within-rest h) k)
 
 pub over-append : (ws vs : List ℕ) (f : (ℕ → ℕ) → ℕ)
     → over (ws ++ vs) f ≡ over ws (λ c. over vs (λ d. f (appended (length ws) c d)))

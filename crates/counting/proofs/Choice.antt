@@ -14,6 +14,10 @@ pub within-more : {w : ℕ} {ws : List ℕ} {r : ℕ} {c : ℕ → ℕ} → r < 
 unfolding width
 within-more h k = record { each = elim [ zero ↦ h | suc i ↦ k .each i ] }
 
+pub within-first-mask : {w : ℕ} {ws : List ℕ} {c : ℕ → ℕ} → Within (w ∷ ws) c → c 0 < 2 ^ w
+unfolding width
+within-first-mask k = k .each 0
+
 pub within-rest : {w : ℕ} {ws : List ℕ} {c : ℕ → ℕ} → Within (w ∷ ws) c → Within ws (λ i. c (suc i))
 unfolding width
 within-rest k = record { each = λ i. k .each (suc i) }

@@ -1,11 +1,14 @@
--- What is proved of each method's secrecy: its masks are drawn in their widths, its rows pass the leak test, and they show its values.
+-- What is proved of each method's secrecy: its masks are drawn in their widths, all that are in their widths are drawn, its rows pass the leak
+-- test, and they show its values.
 use mathlib.Core.Path.{_≡_, refl}
-use mathlib.Core.List.{List, _∷_, map}
-use Prim.Native.Nat.{ℕ, _^_, _≤_, _<_}
+use mathlib.Core.List.{List, [], _∷_, map}
+use Prim.Native.Nat.{ℕ, suc, _^_, _≤_, _<_}
 use native.Mathlib.Omega.{arith}
 use lib.Dec.{T}
 use lib.ListN.{length, drop}
 use Rattle.counting.specs.Choice.{width, Within}
+use Rattle.counting.proofs.Choice.{within-none, within-more}
+use Rattle.counting.proofs.Append.{appended}
 use Rattle.probing.specs.Expression.{Setting}
 use Rattle.probing.specs.Test.{all-fine}
 use Rattle.lookup.specs.Layout.{Layout}
@@ -36,26 +39,47 @@ pub record Hiding (method : Method) : Type 0 where
   pub rows : Call-places → Layout Shown
   pub fine : (a a' : ℕ) → T (all-fine (system (method .mask-classes)) (rows-at (rows (alone single)) a) (rows-at (rows (alone single)) a'))
   pub drawn : (n m : ℕ) (c : ℕ → ℕ) → Within (map (class-width n m) (method .mask-classes)) c → Drawn method n m c
+  pub whole : (n m : ℕ) (c : ℕ → ℕ) → Drawn method n m c → Within (map (class-width n m) (method .mask-classes)) (appended 6 c (λ i. 0))
   pub shown : (s : Call-places) (number n m x : ℕ) (table : List ℕ) (setting : Setting) (secrets masks : ℕ → ℕ)
       → Stands s method n x table setting secrets masks
       → Same-rows (row-value (chosen-case (s .masks) number n m x masks) table) (expression-value setting secrets masks) (2 ^ n)
       (method .layout) (rows s)
 
-pub drawn-2 : (n m : ℕ) (c : ℕ → ℕ) → Within (map (class-width n m) (method-2 .mask-classes)) c → Drawn method-2 n m c
-unfolding width
-drawn-2 n m c w =
-    record { r1 = w .each 0; r2 = w .each 1; r3 = w .each 2; s1 = w .each 3; s2 = w .each 4; b = omega (arith, w .each 5) }
+-- a method whose b has as many values as its class draws numbers of that class, and all of them
+module _ (method : Method) (bit : ℕ) (values : (n m : ℕ) → 2 ^ class-width n m bit ≡ suc (method .b-most)) (n m : ℕ) (c : ℕ → ℕ) where
+  pub drawn-with : Within (map (class-width n m) (0 ∷ 0 ∷ 0 ∷ 1 ∷ 1 ∷ bit ∷ [])) c → Drawn method n m c
+  unfolding width
+  drawn-with w =
+      record { r1 = w .each 0; r2 = w .each 1; r3 = w .each 2; s1 = w .each 3; s2 = w .each 4; b = omega (arith, w .each 5, values n m) }
 
-pub drawn-3 : (n m : ℕ) (c : ℕ → ℕ) → Within (map (class-width n m) (method-3 .mask-classes)) c → Drawn method-3 n m c
-unfolding width
-drawn-3 n m c w =
-    record { r1 = w .each 0; r2 = w .each 1; r3 = w .each 2; s1 = w .each 3; s2 = w .each 4; b = omega (arith, w .each 5) }
+  pub whole-with : Drawn method n m c → Within (map (class-width n m) (0 ∷ 0 ∷ 0 ∷ 1 ∷ 1 ∷ bit ∷ [])) (appended 6 c (λ i. 0))
+  whole-with d =
+      within-more (d .r1) (within-more (d .r2) (within-more (d .r3) (within-more (d .s1) (within-more (d .s2)
+      (within-more (omega (arith, d .b, values n m)) within-none)))))
 
 abbrev pub hiding-2 : Hiding method-2
-hiding-2 = record { six = refl; inputs = refl; rows = shown-2; fine = fine-2; drawn = drawn-2; shown = shows-2 }
+hiding-2 =
+    record {
+      six = refl;
+      inputs = refl;
+      rows = shown-2;
+      fine = fine-2;
+      drawn = drawn-with method-2 2 (λ n m. refl);
+      whole = whole-with method-2 2 (λ n m. refl);
+      shown = shows-2;
+    }
 
 abbrev pub hiding-3 : Hiding method-3
-hiding-3 = record { six = refl; inputs = refl; rows = shown-3; fine = fine-3; drawn = drawn-3; shown = shows-3 }
+hiding-3 =
+    record {
+      six = refl;
+      inputs = refl;
+      rows = shown-3;
+      fine = fine-3;
+      drawn = drawn-with method-3 3 (λ n m. refl);
+      whole = whole-with method-3 3 (λ n m. refl);
+      shown = shows-3;
+    }
 
 pub hiding : Each Hiding methods
 hiding = more hiding-2 (more hiding-3 none)

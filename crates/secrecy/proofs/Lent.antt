@@ -5,14 +5,16 @@ use mathlib.Core.Bool.{true}
 use mathlib.Core.List.{List, _++_}
 use Prim.Native.Nat.{ℕ, zero, suc, _^_, _<_}
 use lib.ListN.{length, drop, List·getD-append}
-use Rattle.bits.proofs.Xor.{below}
+use Rattle.bits.specs.Xor.{_⊕_}
+use Rattle.bits.proofs.Xor.{below, xors}
 use Rattle.refusals.specs.Checks.{first-of}
 use Rattle.buffers.specs.Written.{in-front}
-use Rattle.counting.specs.Choice.{over, Within}
+use Rattle.counting.specs.Choice.{_▸_, over, Within}
 use Rattle.counting.proofs.Over.{over-ext}
 use Rattle.table.specs.Balanced.{at}
 use Rattle.table.specs.Refusals.{table-refusal}
 use Rattle.table.proofs.Refusals.{table-accepted}
+use Rattle.lookup.specs.declared.Case.{Case}
 use Rattle.lookup.specs.Case.{Q}
 use Rattle.lookup.specs.Entry.{value-of}
 use Rattle.lookup.specs.Methods.{known}
@@ -21,12 +23,12 @@ use Rattle.lookup.specs.Refusals.{scratch-checks, log-checks, logged-refusal}
 use Rattle.lookup.specs.Promises.{Log-long}
 use Rattle.lookup.proofs.Promises.{log-long}
 use Rattle.lookup.proofs.Methods.{of-each, known-2-or-3}
-use Rattle.lookup.proofs.Accepted.{Taken, not-refused}
+use Rattle.lookup.proofs.Accepted.{Taken, accepted, not-refused}
 use Rattle.lookup.proofs.Refused.{log-not-refused, plain-case, logged-plain, plain-by-case, logged-by-plain, logged-by-rest}
 use Rattle.refusals.specs.Left.{left}
 use Rattle.calls.specs.Reply.{logged-log}
 use Rattle.secrecy.specs.Count.{single, chosen-case, mask-widths, value-at, shows, count, call-count}
-use Rattle.secrecy.specs.Promises.{Tells-nothing, Choices-accepted, Lent-log-counted, Call-tells-nothing}
+use Rattle.secrecy.specs.Promises.{Tells-nothing, Choices-accepted, Accepted-chosen, Lent-log-counted, Call-tells-nothing}
 use Rattle.secrecy.proofs.Hiding.{hiding}
 use Rattle.secrecy.proofs.Promises.{tells-nothing}
 
@@ -61,6 +63,30 @@ choice-taken table method n m x choice e k h inside =
         b = drawn .b;
       },
     )
+
+-- the masks of a case, as a choice
+abbrev pub masks-of : Case → ℕ → ℕ
+masks-of c = c .r1 ▸ c .r2 ▸ c .r3 ▸ c .s1 ▸ c .s2 ▸ c .b ▸ (λ i. 0)
+
+-- an accepted case is one of a choice within its widths
+pub case-chosen : (table : List ℕ) (c : Case) → Taken c table
+    → Within (mask-widths (c .method) (c .n) (c .m)) (masks-of c)
+    × (chosen-case single (c .method) (c .n) (c .m) (c .x0 ⊕ c .r1 ⊕ c .r2) (masks-of c) ≡ c)
+unfolding mask-widths chosen-case Q
+case-chosen table c taken =
+    let k = taken .1 in
+    let x0 : c .x0 ⊕ c .r1 ⊕ c .r2 ⊕ c .r1 ⊕ c .r2 ≡ c .x0 = simp xors in (
+      of-each (c .method) hiding (taken .0) .whole (c .n) (c .m) (masks-of c)
+          (record { r1 = k .r1; r2 = k .r2; r3 = k .r3; s1 = k .s1; s2 = k .s2; b = k .b }),
+      rw x0,
+    )
+
+pub accepted-chosen : Accepted-chosen
+unfolding Accepted-chosen
+accepted-chosen table scratch lent c e =
+    let whole = plain-case c table scratch (logged-plain c table scratch lent e .0) .0 in
+    let chosen = case-chosen table c (accepted c table whole) in
+    (masks-of c, chosen .0, chosen .1)
 
 pub choices-accepted : Choices-accepted
 unfolding Choices-accepted chosen-case

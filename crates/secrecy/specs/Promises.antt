@@ -6,10 +6,12 @@ use mathlib.Core.Bool.{true, false}
 use mathlib.Core.List.{List}
 use Prim.Native.Nat.{ℕ, _+_, _*_, _^_, _≤_, _<_}
 use lib.ListN.{length}
+use Rattle.bits.specs.Xor.{_⊕_}
 use Rattle.counting.specs.Choice.{over, Within}
 use Rattle.table.specs.Balanced.{at, balanced}
 use Rattle.table.specs.Even.{Even}
 use Rattle.table.specs.Refusals.{table-refusal}
+use Rattle.lookup.specs.declared.Case.{Case}
 use Rattle.lookup.specs.Call.{log-of, log-length, scratch-length}
 use Rattle.lookup.specs.Refusals.{dirty, logged-refusal}
 use Rattle.calls.specs.Reply.{logged-log}
@@ -41,6 +43,13 @@ Choices-accepted =
     Within (mask-widths method n m) choice → scratch-length method n ≤ length scratch → dirty (scratch-length method n) scratch ≡ false →
     log-length method n ≤ length lent →
     logged-refusal (chosen-case single method n m x choice) table scratch lent ≡ 0
+
+-- and there is a choice for each case that the call accepts, so that none is left out
+unfoldable pub Accepted-chosen : Type 0
+Accepted-chosen =
+    (table scratch lent : List ℕ) (c : Case) → logged-refusal c table scratch lent ≡ 0 →
+    (choice : ℕ → ℕ) × Within (mask-widths (c .method) (c .n) (c .m)) choice
+    × (chosen-case single (c .method) (c .n) (c .m) (c .x0 ⊕ c .r1 ⊕ c .r2) choice ≡ c)
 
 -- for every input and choice, and whatever scratch and log are lent as the call accepts them: each entry below the log's length is the
 -- counted one

@@ -6,7 +6,7 @@ use chain::Chained;
 use chain::Second;
 
 // What the second call has of its own.
-fn second_case(record: &[u8]) -> Second {
+fn second_call(record: &[u8]) -> Second {
     let case = test_lookup_records::case(record);
     Second {
         method: case.method,
@@ -53,7 +53,7 @@ fn print_call(
 ) {
     let chained = chain::chained_call(
         test_lookup_records::case(first),
-        second_case(second),
+        second_call(second),
         test_lookup_records::table(first),
         test_lookup_records::table(second),
         first_scratch,
