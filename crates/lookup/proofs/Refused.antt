@@ -9,7 +9,7 @@ use lib.ListN.{length, take, replicate, length-replicate, replicate-append-repli
 use lib.Seq.{length-take-le, take-at}
 use Rattle.refusals.specs.Checks.{first-of}
 use Rattle.refusals.specs.Tests.{any-from}
-use Rattle.refusals.proofs.Checks.{passed, goes, none-applies, numbered, passed-both, goes-both, none-behind, none-before}
+use Rattle.refusals.proofs.Checks.{passed, goes, none-applies, numbered, passed-both, stops-both, goes-both, none-behind, none-before}
 use Rattle.refusals.proofs.Tests.{zeros-none, none-nonzero}
 use Rattle.table.specs.Refusals.{table-checks, table-refusal}
 use Rattle.table.proofs.Refusals.{Table, table-accepted}
@@ -131,6 +131,11 @@ module _ (c : Case) (table : List ℕ) where
     pub logged-by-plain : (lent : List ℕ) → first-of (log-checks c lent) ≡ 0 → logged-refusal c table scratch lent ≡ plain-refusal c table scratch
     unfolding plain-refusal logged-refusal
     logged-by-plain lent e = none-behind (case-checks c table ++ scratch-checks c scratch) (log-checks c lent) e
+
+    -- a refused case has its number, whatever the scratch and the log
+    pub refused-by-case : (lent : List ℕ) (k : ℕ) → k ≡ case-refusal c table → (k ≡ 0 → ⊥) → k ≡ logged-refusal c table scratch lent
+    unfolding case-refusal logged-refusal
+    refused-by-case lent k e h = stops-both _ (log-checks c lent) (stops-both (case-checks c table) (scratch-checks c scratch) e h) h
 
     -- an accepted case leaves the number to scratch and log
     pub logged-by-rest : (lent : List ℕ) → case-refusal c table ≡ 0

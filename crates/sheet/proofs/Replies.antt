@@ -14,12 +14,11 @@ use Rattle.lookup.specs.Call.{answer, log-of, log-length, scratch-length}
 use Rattle.lookup.specs.Refusals.{case-refusal, plain-refusal, logged-refusal}
 use Rattle.lookup.specs.Promises.{Cleared-taken, Log-long}
 use Rattle.lookup.proofs.Accepted.{accepted}
-use Rattle.lookup.proofs.Refused.{log-not-refused, logged-by-plain}
+use Rattle.lookup.proofs.Refused.{log-not-refused, logged-by-plain, refused-by-case}
 use Rattle.lookup.proofs.Sizes.{log-most, scratch-most}
 use Rattle.lookup.proofs.Promises.{cleared-taken, log-long}
 use Rattle.refusals.specs.Left.{left}
 use Rattle.calls.specs.Reply.{called, logged-reply, logged-log}
-use Rattle.call_checks.proofs.Checking.{at-case, at-plain}
 use Rattle.log_print.specs.Lines.{line-of, answer-lines}
 use Rattle.sheet.specs.Print.{reply}
 
@@ -49,7 +48,7 @@ module _ (c : Case) (table : List ℕ) where
             logged-by-plain c table scratch lent (log-not-refused c lent (omega (arith, log-small (sym e))))
             ∙ ap (plain-refusal c table) zeros ∙ cleared-taken table 256 c (scratch-small (sym e))
         same-refusal-by-cases (suc k) e =
-            sym (at-plain c table scratch lent (suc k) (at-case c table scratch (suc k) e (λ z. omega arith)) (λ z. omega arith)) ∙ e
+            sym (refused-by-case c table scratch lent (suc k) e (λ z. omega arith)) ∙ e
 
     number : x .refusal ≡ case-refusal c table
     unfolding logged-reply
