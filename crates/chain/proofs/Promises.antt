@@ -16,7 +16,7 @@ use Rattle.lookup.specs.Case.{Q}
 use Rattle.lookup.specs.Call.{answer}
 use Rattle.lookup.specs.Refusals.{mask-checks, scratch-checks, log-checks, box-checks, other-checks, case-refusal, logged-refusal}
 use Rattle.lookup.specs.Promises.{Answer-right, Answer-small}
-use Rattle.lookup.proofs.Refused.{plain-case, logged-plain, box-numbered, other-numbered, parts-passed}
+use Rattle.lookup.proofs.Refused.{logged-case, box-numbered, other-numbered, parts-passed}
 use Rattle.lookup.proofs.Accepted.{accepted}
 use Rattle.lookup.proofs.Promises.{answer-right, answer-small}
 use Rattle.calls.specs.Reply.{called, logged-reply, logged-scratch, logged-log}
@@ -28,10 +28,6 @@ use Rattle.chain.specs.Promises.{then-case, Share-right, Share-small, Re
 use Rattle.chain.proofs.Checking.{answer-fits, chain-parts}
 use Rattle.chain.proofs.Accepted.{Passed, chain-passed, chain-accepted}
 use Rattle.chain.proofs.Replies.{refused-reply, first-scratch-kept, second-scratch-kept, first-log-kept, second-log-kept}
-
--- an accepted logged call's case is accepted
-case-accepted : (c : Case) (table scratch log : List ℕ) → logged-refusal c table scratch log ≡ 0 → case-refusal c table ≡ 0
-case-accepted c table scratch log e = plain-case c table scratch (logged-plain c table scratch log e .0) .0
 
 module _ (first : Case) (second : Second) (l : Lent) where
   abbrev Both : Type 0
@@ -52,15 +48,15 @@ share-right first second l e =
     let k = both first second l e in
     let S = l .first-table in
     let later = following first second S in
-    let one = answer-right S first (case-accepted first S _ _ (k .first-accepted)) in
-    let two = answer-right (l .second-table) later (case-accepted later (l .second-table) _ _ (k .second-accepted)) in
+    let one = answer-right S first (logged-case first S _ _ (k .first-accepted)) in
+    let two = answer-right (l .second-table) later (logged-case later (l .second-table) _ _ (k .second-accepted)) in
     rw e (two ∙ ap (at (l .second-table)) one)
 
 pub share-small : Share-small
 unfolding Share-small Answer-small chain-reply chained following second-case
 share-small first second l e =
     let later = following first second (l .first-table) in
-    rw e (answer-small (l .second-table) later (case-accepted later (l .second-table) _ _ (both first second l e .second-accepted)))
+    rw e (answer-small (l .second-table) later (logged-case later (l .second-table) _ _ (both first second l e .second-accepted)))
 
 pub refused-kept : Refused-kept
 unfolding Refused-kept
@@ -105,7 +101,7 @@ module _ (first : Case) (second : Second) (S scratch log scratch′ log′ : Lis
   unfolding any-from
   only-r3 =
       let parts = parts-passed first S scratch log e in
-      let taken = accepted first S (case-accepted first S scratch log e) .1 in
+      let taken = accepted first S (logged-case first S scratch log e) .1 in
       let fits : (v : ℕ) → v < 2 ^ first .m → leb (2 ^ second .n) v ≡ false
       = λ v h. lt-leb (2 ^ second .n) v (subst (λ (width : ℕ). v < 2 ^ width) widths h) in
       let answered = lt-leb (2 ^ second .n) (answer first S) (answer-fits first second S scratch log (parts .0) widths (parts .1)) in

@@ -21,7 +21,7 @@ use Rattle.lookup.specs.Refusals.{scratch-checks, log-checks, case-refusal, log
 use Rattle.lookup.specs.Promises.{Log-long}
 use Rattle.lookup.proofs.Methods.{of-each, known-2-or-3}
 use Rattle.lookup.proofs.Accepted.{not-refused}
-use Rattle.lookup.proofs.Refused.{Clean, scratch-not-refused, log-not-refused, plain-case, logged-plain}
+use Rattle.lookup.proofs.Refused.{Clean, scratch-not-refused, log-not-refused, logged-case}
 use Rattle.lookup.proofs.Promises.{log-long}
 use Rattle.secrecy.specs.Count.{single, chosen-case, value-at}
 use Rattle.secrecy.proofs.Hiding.{Hiding, hiding}
@@ -44,6 +44,7 @@ module _ (l : Lent) (k : Boxes) (S-accepted : table-refusal (k .input) (k .betwe
   abbrev two : Hiding (method-of (k .second-method))
   two = of-each (k .second-method) hiding (known-2-or-3 (paired .1))
 
+  -- what the scratches and logs are refused by, of any choice
   unfoldable rest : ℕ
   rest =
       let chosen = first-case k 0 (λ i. 0) in
@@ -73,7 +74,7 @@ module _ (l : Lent) (k : Boxes) (S-accepted : table-refusal (k .input) (k .betwe
         (choice-taken (l .second-table) (k .second-method) (k .between) (k .output) (at (l .first-table) x) (second-masks c) T-accepted
         (known-2-or-3 (paired .1)) small (second-within k one two c inside))
 
-    -- so scratches and logs decide, and what they are refused by no choice changes
+    -- so scratches and logs decide, which no choice changes
     by-lent : chain-refusal (first-case k x c) (second-own k c) l ≡ rest
     unfolding rest first-case second-own chosen-case following second-case scratch-checks log-checks
     by-lent = chain-by-lent (first-case k x c) (second-own k c) _ _ _ _ _ _ first-taken refl second-taken
@@ -82,7 +83,7 @@ module _ (l : Lent) (k : Boxes) (S-accepted : table-refusal (k .input) (k .betwe
 log-whole : (c : Case) (table scratch log : List ℕ) → logged-refusal c table scratch log ≡ 0
     → length (log-of c table) ≡ log-length (c .method) (c .n)
 unfolding Log-long
-log-whole c table scratch log e = log-long table c (plain-case c table scratch (logged-plain c table scratch log e .0) .0) .0
+log-whole c table scratch log e = log-long table c (logged-case c table scratch log e) .0
 
 pub left-logs-counted : Left-logs-counted
 unfolding Left-logs-counted left-logs defined-logs entries chain-first-log chain-second-log left following second-case first-case second-own

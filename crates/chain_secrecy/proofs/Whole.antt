@@ -8,10 +8,9 @@ use Rattle.counting.specs.Choice.{Within}
 use Rattle.counting.proofs.Choice.{within-rest}
 use Rattle.counting.proofs.Append.{appended, within-both}
 use Rattle.lookup.specs.declared.Case.{Case}
-use Rattle.lookup.specs.Refusals.{logged-refusal}
 use Rattle.lookup.proofs.Methods.{of-each}
 use Rattle.lookup.proofs.Accepted.{Taken, accepted}
-use Rattle.lookup.proofs.Refused.{plain-case, logged-plain}
+use Rattle.lookup.proofs.Refused.{logged-case}
 use Rattle.secrecy.specs.Count.{chosen-case, mask-widths}
 use Rattle.secrecy.proofs.Hiding.{hiding}
 use Rattle.secrecy.proofs.Lent.{masks-of, case-chosen}
@@ -22,10 +21,6 @@ use Rattle.chain.proofs.Accepted.{Passed, chain-passed}
 use Rattle.chain_secrecy.specs.Count.{Boxes, boxes-of, chain-widths, first-case, second-own}
 use Rattle.chain_secrecy.specs.Promises.{Accepted-chain-chosen}
 use Rattle.chain_secrecy.proofs.Chosen.{six, inputs}
-
--- what an accepted logged call's case has passed
-case-taken : (c : Case) (table scratch log : List ℕ) → logged-refusal c table scratch log ≡ 0 → Taken c table
-case-taken c table scratch log e = accepted c table (plain-case c table scratch (logged-plain c table scratch log e .0) .0)
 
 module _ (l : Lent) (c : Case) (d : Second) (e : chain-refusal c d l ≡ 0) where
   abbrev k : Boxes
@@ -38,10 +33,10 @@ module _ (l : Lent) (c : Case) (d : Second) (e : chain-refusal c d l ≡ 0) wher
   both = chain-passed c d _ _ _ _ _ _ e
 
   one : Taken c (l .first-table)
-  one = case-taken c (l .first-table) _ _ (both .first-accepted)
+  one = accepted c (l .first-table) (logged-case c (l .first-table) _ _ (both .first-accepted))
 
   two : Taken later (l .second-table)
-  two = case-taken later (l .second-table) _ _ (both .second-accepted)
+  two = accepted later (l .second-table) (logged-case later (l .second-table) _ _ (both .second-accepted))
 
   -- the first's masks, and behind them the second's without r1 and r2
   unfoldable masks : ℕ → ℕ

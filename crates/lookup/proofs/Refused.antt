@@ -123,6 +123,9 @@ module _ (c : Case) (table : List ℕ) where
     unfolding plain-refusal logged-refusal
     logged-plain lent e = passed-both (case-checks c table ++ scratch-checks c scratch) (log-checks c lent) plain-numbered e
 
+    pub logged-case : (lent : List ℕ) → logged-refusal c table scratch lent ≡ 0 → case-refusal c table ≡ 0
+    logged-case lent e = plain-case (logged-plain lent e .0) .0
+
     -- a scratch and a log that are not refused leave the number to the case
     pub plain-by-case : Clean c scratch → plain-refusal c table scratch ≡ case-refusal c table
     unfolding case-refusal plain-refusal

@@ -24,7 +24,7 @@ use Rattle.lookup.specs.Promises.{Log-long}
 use Rattle.lookup.proofs.Promises.{log-long}
 use Rattle.lookup.proofs.Methods.{of-each, known-2-or-3}
 use Rattle.lookup.proofs.Accepted.{Taken, accepted, not-refused}
-use Rattle.lookup.proofs.Refused.{log-not-refused, plain-case, logged-plain, plain-by-case, logged-by-plain, logged-by-rest}
+use Rattle.lookup.proofs.Refused.{log-not-refused, logged-case, plain-by-case, logged-by-plain, logged-by-rest}
 use Rattle.refusals.specs.Left.{left}
 use Rattle.calls.specs.Reply.{logged-log}
 use Rattle.secrecy.specs.Count.{single, chosen-case, mask-widths, value-at, shows, count, call-count}
@@ -41,7 +41,7 @@ pub lent-log-counted : Lent-log-counted
 unfolding Lent-log-counted Log-long logged-log left chosen-case
 lent-log-counted table scratch lent method n m x choice i e h =
     let c = chosen-case single method n m x choice in
-    let whole = plain-case c table scratch (logged-plain c table scratch lent e .0) .0 in
+    let whole = logged-case c table scratch lent e in
     let long : length (log-of c table) ≡ log-length method n = log-long table c whole .0 in
     rw e (in-front-at (log-of c table) lent i (rw long h))
 
@@ -84,7 +84,7 @@ case-chosen table c taken =
 pub accepted-chosen : Accepted-chosen
 unfolding Accepted-chosen
 accepted-chosen table scratch lent c e =
-    let whole = plain-case c table scratch (logged-plain c table scratch lent e .0) .0 in
+    let whole = logged-case c table scratch lent e in
     let chosen = case-chosen table c (accepted c table whole) in
     (masks-of c, chosen .0, chosen .1)
 
