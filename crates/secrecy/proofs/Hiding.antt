@@ -45,7 +45,7 @@ pub record Hiding (method : Method) : Type 0 where
       → Same-rows (row-value (chosen-case (s .masks) number n m x masks) table) (expression-value setting secrets masks) (2 ^ n)
       (method .layout) (rows s)
 
--- a method whose b has as many values as its class draws numbers of that class, and all of them
+-- a method that draws r3 of the input's width and takes every b of its class: what is drawn is within the widths, and all within them is drawn
 module _ (method : Method) (bit : ℕ) (values : (n m : ℕ) → 2 ^ class-width n m bit ≡ suc (method .b-most)) (n m : ℕ) (c : ℕ → ℕ) where
   pub drawn-with : Within (map (class-width n m) (0 ∷ 0 ∷ 0 ∷ 1 ∷ 1 ∷ bit ∷ [])) c → Drawn method n m c
   unfolding width
