@@ -14,25 +14,25 @@ extern "C" {
 
 // A changed call or refusal raises the minor number.
 #define CIPPAZHEY_VERSION_MAJOR 0
-#define CIPPAZHEY_VERSION_MINOR 1
+#define CIPPAZHEY_VERSION_MINOR 2
 #define CIPPAZHEY_VERSION_PATCH 0
 
 // Why a call is refused. The order of this list is the order of checking, and the first that applies is returned.
 enum cippazhey_refusal {
     CIPPAZHEY_ACCEPTED = 0,
-    CIPPAZHEY_REFUSED_METHOD = 2,           // the method is neither 2 nor 3
-    CIPPAZHEY_REFUSED_INPUT_WIDTH = 3,      // n is below 1 or above 8
-    CIPPAZHEY_REFUSED_OUTPUT_WIDTH = 4,     // m is below 1 or above n
-    CIPPAZHEY_REFUSED_TABLE_LENGTH = 5,     // the table does not have exactly 2^n entries
-    CIPPAZHEY_REFUSED_TABLE_ENTRY = 6,      // a table entry is 2^m or more
-    CIPPAZHEY_REFUSED_UNBALANCED_TABLE = 7, // a value below 2^m does not stand in exactly 2^(n-m) entries
-    CIPPAZHEY_REFUSED_INPUT_SHARE = 10,     // x0, r1, r2 or r3 is 2^n or more
-    CIPPAZHEY_REFUSED_OUTPUT_MASK = 11,     // s1 or s2 is 2^m or more
-    CIPPAZHEY_REFUSED_BIT = 12,             // b is above 0 under method 2, or above 1 under method 3
-    CIPPAZHEY_REFUSED_RANDOM_LENGTH = 26,   // a frame is not lent exactly 632 random bytes
-    CIPPAZHEY_REFUSED_FAULTY_RANDOM = 27,   // a value stands more than 20 times in 512 consecutive ones of these bytes
-    CIPPAZHEY_REFUSED_SCRATCH_LENGTH = 13,  // scratch has fewer than 2^n bytes, for a frame fewer than 256
-    CIPPAZHEY_REFUSED_DIRTY_SCRATCH = 19    // one of the first 2^n bytes of scratch is not zero; a frame clears them itself
+    CIPPAZHEY_REFUSED_METHOD = 2,          // the method is neither 2 nor 3
+    CIPPAZHEY_REFUSED_INPUT_WIDTH = 3,     // n is below 1 or above 8
+    CIPPAZHEY_REFUSED_OUTPUT_WIDTH = 4,    // m is below 1 or above 8
+    CIPPAZHEY_REFUSED_TABLE_LENGTH = 5,    // the table does not have exactly 2^n entries
+    CIPPAZHEY_REFUSED_TABLE_ENTRY = 6,     // a table entry is 2^m or more
+    CIPPAZHEY_REFUSED_UNFIT_TABLE = 7,     // not fit: values occur unequally often, or the exclusive or of three does not
+    CIPPAZHEY_REFUSED_INPUT_SHARE = 10,    // x0, r1, r2 or r3 is 2^n or more
+    CIPPAZHEY_REFUSED_OUTPUT_MASK = 11,    // s1 or s2 is 2^m or more
+    CIPPAZHEY_REFUSED_BIT = 12,            // b is above 0 under method 2, or above 1 under method 3
+    CIPPAZHEY_REFUSED_RANDOM_LENGTH = 26,  // a frame is not lent exactly 632 random bytes
+    CIPPAZHEY_REFUSED_FAULTY_RANDOM = 27,  // a value stands more than 20 times in 512 consecutive ones of these bytes
+    CIPPAZHEY_REFUSED_SCRATCH_LENGTH = 13, // scratch has fewer than 2^n bytes, for a frame fewer than 256
+    CIPPAZHEY_REFUSED_DIRTY_SCRATCH = 19   // one of the first 2^n bytes of scratch is not zero; a frame clears them itself
 };
 
 // A lookup needs 2^n bytes of scratch. This many suffice for every width, and for a frame.
@@ -48,12 +48,14 @@ enum cippazhey_refusal {
 // Accepted, it returns the share table[x] ^ s1 ^ s2; s1 and s2 are the other two shares of table[x].
 //
 //   method       2 looks up in a masked copy of the table, 3 compares; both return the same share
-//   n, m         the table's input and output widths in bits
+//   n, m         the table's input and output widths in bits, each from 1 to 8
 //   x0, r1, r2   the three shares of the secret: x ^ r1 ^ r2 and the two masks
 //   s1, s2       the masks of the output
 //   r3           a mask of width n that the lookup itself uses
 //   b            under method 3 a random bit, under method 2 always 0
-//   table        one byte an entry; only read
+//   table        one byte an entry; only read. It must be fit: all values that occur in it do so equally often, and the
+//                exclusive or of any three of them, repeats allowed, occurs as well. A balanced table, which has every value
+//                below 2^m equally often, is fit; a permutation is balanced.
 //   scratch      its first 2^n bytes must be zero; what stands behind them is not looked at, and stays. Accepted, those
 //                2^n bytes become method 2's masked table or method 3's comparison bytes. Refused, all of it stays.
 //
@@ -66,13 +68,13 @@ enum cippazhey_refusal {
 //     share, the others are the table's other entries under the same masks. Together they can tell s1 ^ s2 (for the S-box of
 //     AES they do), and that with the returned share gives table[x]. Method 3 leaves r3 and b.
 //     A call that finds a nonzero byte among its own first 2^n is refused, and leaves it there. That is no guard: a narrower
-//     call may find zeros in what a wider one left, and takes them.
+//     call may find zeros in what a wider one left, any call in what method 2 left of a constant table, and takes them.
 //
 // What is proved of the source:
 //   - Every call returns, and reads and writes only the bytes it is lent.
 //   - The result and every byte of scratch are what the definitions in specs/ make of the arguments and of the scratch;
 //     docs/REFERENCE.md has them in words. A refused call writes nothing.
-//   - Any two of the values that the method's log lists tell nothing of the secret, for every balanced table and all widths.
+//   - Any two of the values that the method's log lists tell nothing of the secret, for every fit table and all widths.
 // What is not proved:
 //   - How long a call takes.
 //   - What the compiled code holds in registers and memory. That was audited, for the x86-64 archive and its compiler only.

@@ -191,41 +191,63 @@ static struct choice random_choice(struct widths w, size_t number) {
     return c;
 }
 
+// Numbers below a power of two, equally often: both steps can be undone.
+static uint32_t scattered(uint32_t place, uint32_t limit) {
+    uint32_t odd_multiple = (place * 37 + 11) % limit;
+    return odd_multiple ^ odd_multiple >> 3;
+}
+
+// The tables of the linear study: each value once, and each with an odd number of ones twice, which is fit and not balanced.
+static uint8_t balanced_entry(uint32_t place) {
+    return (uint8_t)scattered(place, LONGEST);
+}
+static uint8_t odd_entry(uint32_t place) {
+    uint32_t upper_bits = scattered(place, LONGEST / 2);
+    return (uint8_t)(2 * upper_bits + !__builtin_parity(upper_bits));
+}
+
 // Some inputs with choices of masks drawn at random, at n = m = 8. Each byte is a probe: where two numbers' exclusive or leaks, one of their
 // bytes' does.
-static int linear(uint32_t method, bool same_code) {
-    struct study study = {"linear", {method, 8, 8}, {1, 1}, RANDOM_INPUTS, RANDOM_CHOICES, some_input, random_choice, leaking_sums, NULL};
+static int linear(const char *name, uint32_t method, bool same_code, uint8_t (*entry)(uint32_t place)) {
+    struct study study = {name, {method, 8, 8}, {1, 1}, RANDOM_INPUTS, RANDOM_CHOICES, some_input, random_choice, leaking_sums, NULL};
     struct trace trace;
     if (same_code && watches(WIDTHS_PART)) study.way = all_audited;
     if (!watches(BYTES_PART)) study.division = (struct division){8, 8};
     if (subject->flags & CLEARS) study.leaking = dependent_probes;
-    for (uint32_t i = 0; i < LONGEST; i++) {
-        uint32_t odd_multiple = (i * 37 + 11) % LONGEST;
-        table[i] = (uint8_t)(odd_multiple ^ odd_multiple >> 3); // both steps can be undone, so each value comes up once
-    }
+    for (uint32_t i = 0; i < LONGEST; i++) table[i] = entry(i);
     int found = carry_out(&study, &trace);
     end_trace(&trace);
     return found;
 }
 
-// The exhaustive cases of the subject, if `small`; then the linear one, if `large` and nothing leaks so far.
+// The linear cases of the subject, as long as nothing leaks.
+static int audit_large(uint32_t method, bool same_code) {
+    int found = linear("linear", method, same_code, balanced_entry);
+    bool by_table = subject->flags & BY_TABLE && watches(FIT_PART);
+    return found == SILENT && by_table ? linear("linear, 128 values", method, same_code, odd_entry) : found;
+}
+
+// The exhaustive cases of the subject, if `small`; then the linear ones, if `large` and nothing leaks so far.
 static int audit(uint32_t method, bool small, bool large) {
+    enum { FIRST_FIT = 6, FIT_CASES = 3 };
     static const struct {
         uint32_t n, m;
         uint8_t table[8];
     } cases[] = {{1, 1, {1, 0}},       {2, 1, {0, 1, 1, 0}}, {2, 2, {2, 0, 3, 1}},
                  {1, 1, {0, 1}},       {2, 1, {1, 1, 0, 0}}, {2, 2, {0, 1, 3, 2}},
-                 {2, 1, {0, 0, 0, 1}}, // not balanced: what leaks is whether the input is 3
-                 // Up to n = 2 every balanced table is affine, and then two leftovers of a call tell no more than one. This one is not.
+                 {1, 2, {0, 3}},       {2, 2, {1, 2, 1, 2}}, {2, 3, {5, 6, 0, 3}}, // these three are fit and not balanced
+                 {2, 1, {0, 0, 0, 1}}, // not fit: what leaks is whether the input is 3
+                 // Up to n = 2 every fit table is affine, and then two leftovers of a call tell no more than one. This one is not.
                  {3, 1, {0, 0, 0, 1, 0, 1, 1, 1}},
     };
     int found = small && subject->cases == 0 ? UNKNOWN : SILENT;
     for (size_t i = subject->first; small && i < subject->first + subject->cases && found != UNKNOWN; i++) {
+        if (i >= FIRST_FIT && i < FIRST_FIT + FIT_CASES && !watches(FIT_PART)) continue;
         int here = exhaustive((struct widths){method, cases[i].n, cases[i].m}, cases[i].table);
         if (here > found) found = here;
         if (subject->flags & CONTROL && found == LEAKS) break;
     }
-    return large && found == SILENT ? linear(method, small && !(subject->flags & BY_WIDTH)) : found;
+    return large && found == SILENT ? audit_large(method, small && !(subject->flags & BY_WIDTH)) : found;
 }
 
 // Leaves out a part, if the words that are left ask for it. False where they say anything else.

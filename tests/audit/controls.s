@@ -142,6 +142,39 @@ control widths
     nop
     go_on
 
+# Goes on at once but where the first entry of the table comes again in the middle, as at n = m in no balanced table.
+    .macro with_few_values
+    mov 40(%rsp), %rax
+    mov 48(%rsp), %r10
+    shr $1, %r10
+    mov (%rax,%r10), %r10b
+    cmp (%rax), %r10b
+    jne guarded_bare_call
+    .endm
+
+# On such a table, the exclusive or of x0 and r1.
+control few_values
+    with_few_values
+    mov %ecx, %eax
+    xor %r8d, %eax
+    go_on
+
+# On such a table, an instruction that no narrower width runs.
+control few_values_widths
+    with_few_values
+    cmp $8, %esi
+    jne guarded_bare_call
+    nop
+    go_on
+
+# The exclusive or of x0 and r1 where m is above n, as for no balanced table.
+control wide_outputs
+    cmp %esi, %edx
+    jbe guarded_bare_call
+    mov %ecx, %eax
+    xor %r8d, %eax
+    go_on
+
 # More steps than the audit has room for.
 control length
     mov $40000, %eax

@@ -24,6 +24,7 @@ bool leave_out(const char *name) {
         [INSTRUCTIONS_PART] = "instructions",
         [STORES_PART] = "stores",
         [WIDTHS_PART] = "widths",
+        [FIT_PART] = "fit",
         [ALONE_PART] = "alone",
         [TWOS_PART] = "twos",
         [BITS_PART] = "bits",

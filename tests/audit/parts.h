@@ -22,6 +22,7 @@ enum part {
     INSTRUCTIONS_PART, // every instruction is known
     STORES_PART,       // memory changes only where an instruction is known to write
     WIDTHS_PART,       // what runs at n = 8 runs at n = 2
+    FIT_PART,          // tables that are fit and not balanced
     ALONE_PART,        // of a frame, each column by itself
     TWOS_PART,         // and with each other
     BITS_PART,         // a column is a bit, not a byte

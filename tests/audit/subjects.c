@@ -27,6 +27,12 @@
     each(depth, 1)          \
     each(vector_store, 2)
 
+// Those of controls.s that take another way on a table that is not balanced.
+#define TABLE_CONTROLS(each)   \
+    each(few_values, 8)        \
+    each(few_values_widths, 8) \
+    each(wide_outputs, 8)
+
 // Those of frame_controls.s.
 #define FRAME_CONTROLS(each) \
     each(alone)              \
@@ -58,12 +64,14 @@
 // Only their addresses are used: the arguments are laid out by hand.
 #define DECLARATION(name, cases) void control_##name(void);
 #define ROW(name, cases) {#name, control_##name, 0, cases, CONTROL},
+#define TABLE_ROW(name, cases) {#name, control_##name, 0, cases, CONTROL | BY_TABLE},
 #define FRAME_DECLARATION(name) void frame_control_##name(void);
 #define FRAME_ROW(name) {"frame_" #name, frame_control_##name, 0},
 #define SCREEN_DECLARATION(name) void name(void);
 #define SCREEN_ROW(name) {#name, name},
 
 CONTROLS(DECLARATION)
+TABLE_CONTROLS(DECLARATION)
 FRAME_CONTROLS(FRAME_DECLARATION)
 SCREENS(SCREEN_DECLARATION)
 void control_joined_leftovers(void);
@@ -88,20 +96,20 @@ void baseline_plain_call(void);
 
 const struct subject *subject_named(const char *name) {
     static const struct subject subjects[] = {
-        {"plain", cippazhey_plain_call, 0, 6, 0},
+        {"plain", cippazhey_plain_call, 0, 9, BY_TABLE},
         {"logged", cippazhey_logged_call, 0, 2, LOGGED},
         {"guarded", guarded_plain_call, 0, 3, CONTROL | BY_WIDTH},
         {"unguarded", baseline_plain_call, 0, 3, CONTROL | BY_WIDTH},
-        {"inputs", guarded_bare_call, 6, 1, CONTROL}, // it checks no table, so it looks up in an unbalanced one
-        {"used", cippazhey_plain_call, 7, 1, USED},
-        {"joined_leftovers", control_joined_leftovers, 7, 1, CONTROL | USED},
+        {"inputs", guarded_bare_call, 9, 1, CONTROL}, // it checks no table, so it looks up in one that is not fit
+        {"used", cippazhey_plain_call, 10, 1, USED},
+        {"joined_leftovers", control_joined_leftovers, 10, 1, CONTROL | USED},
         {"joined_leftovers_affine", control_joined_leftovers, 0, 3, CONTROL | USED},
-        {"single_leftovers", control_single_leftovers, 7, 1, CONTROL | USED},
-        {"early_exit", control_early_exit, 7, 1, CONTROL | USED},
+        {"single_leftovers", control_single_leftovers, 10, 1, CONTROL | USED},
+        {"early_exit", control_early_exit, 10, 1, CONTROL | USED},
         {"clear", cippazhey_clear, 0, 3, CLEARS},
         {"reading_clear", control_reading_clear, 0, 1, CONTROL | CLEARS},
         {"short_clear", control_short_clear, 0, 1, CONTROL | CLEARS},
-        CONTROLS(ROW)};
+        TABLE_CONTROLS(TABLE_ROW) CONTROLS(ROW)};
     for (size_t i = 0; i < sizeof subjects / sizeof *subjects; i++)
         if (!strcmp(subjects[i].name, name)) return &subjects[i];
     return NULL;

@@ -21,7 +21,7 @@ static clear_call *const typed_clear = cippazhey_clear;
 
 enum { METHOD, N, M, X0, R1, R2, S1, S2, R3, B, NUMBERS };
 
-// A call at n = 3, m = 1: its result, its numbers in the order above, its table, the lengths of table and scratch, and the last byte of
+// A call at n = 3: its result, its numbers in the order above, its table, the lengths of table and scratch, and the last byte of
 // scratch. The others are zero.
 struct trial {
     unsigned refusal, share;
@@ -33,16 +33,18 @@ struct trial {
 
 static const uint8_t balanced[] = {0, 0, 1, 0, 1, 1, 0, 1};
 static const uint8_t entry_2[] = {0, 0, 1, 0, 1, 1, 0, 2};
-static const uint8_t unbalanced[] = {0, 0, 1, 0, 1, 1, 0, 0};
+static const uint8_t unfit[] = {0, 0, 1, 0, 1, 1, 0, 0};
+static const uint8_t two_values[] = {9, 9, 4, 9, 4, 4, 9, 4};
 static const struct trial trials[] = {
     {CIPPAZHEY_ACCEPTED, 0, {3, 3, 1, 6, 1, 5, 1, 0, 4, 0}, balanced, 8, 8, 0},
     {CIPPAZHEY_ACCEPTED, 1, {2, 3, 1, 6, 1, 3, 0, 0, 3, 0}, balanced, 8, 8, 0},
+    {CIPPAZHEY_ACCEPTED, 11, {2, 3, 4, 6, 1, 3, 15, 0, 3, 0}, two_values, 8, 8, 0},
     {CIPPAZHEY_REFUSED_METHOD, 0, {4, 3, 1, 6, 1, 5, 1, 0, 4, 1}, balanced, 8, 8, 0},
     {CIPPAZHEY_REFUSED_INPUT_WIDTH, 0, {3, 9, 1, 6, 1, 5, 1, 0, 4, 1}, balanced, 8, 8, 0},
-    {CIPPAZHEY_REFUSED_OUTPUT_WIDTH, 0, {3, 3, 4, 6, 1, 5, 1, 0, 4, 1}, balanced, 8, 8, 0},
+    {CIPPAZHEY_REFUSED_OUTPUT_WIDTH, 0, {3, 3, 9, 6, 1, 5, 1, 0, 4, 1}, balanced, 8, 8, 0},
     {CIPPAZHEY_REFUSED_TABLE_LENGTH, 0, {3, 3, 1, 6, 1, 5, 1, 0, 4, 1}, balanced, 7, 8, 0},
     {CIPPAZHEY_REFUSED_TABLE_ENTRY, 0, {3, 3, 1, 6, 1, 5, 1, 0, 4, 1}, entry_2, 8, 8, 0},
-    {CIPPAZHEY_REFUSED_UNBALANCED_TABLE, 0, {3, 3, 1, 6, 1, 5, 1, 0, 4, 1}, unbalanced, 8, 8, 0},
+    {CIPPAZHEY_REFUSED_UNFIT_TABLE, 0, {3, 3, 1, 6, 1, 5, 1, 0, 4, 1}, unfit, 8, 8, 0},
     {CIPPAZHEY_REFUSED_INPUT_SHARE, 0, {3, 3, 1, 8, 1, 5, 1, 0, 4, 1}, balanced, 8, 8, 0},
     {CIPPAZHEY_REFUSED_OUTPUT_MASK, 0, {3, 3, 1, 6, 1, 5, 2, 0, 4, 1}, balanced, 8, 8, 0},
     {CIPPAZHEY_REFUSED_BIT, 0, {3, 3, 1, 6, 1, 5, 1, 0, 4, 2}, balanced, 8, 8, 0},

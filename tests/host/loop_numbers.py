@@ -8,7 +8,9 @@ from pathlib import Path
 # The functions with such a loop.
 OVER_TABLES = {
     "table::tally",
-    "table::joined_counts",
+    "table::fitness::joined_counts",
+    "table::fitness::find_difference",
+    "table::fitness::is_period",
     "call_checks::dirty",
     "method2::fill",
     "method2::logged::fill",
@@ -18,6 +20,7 @@ OVER_TABLES = {
 }
 # The functions with a loop over something else, and what that is.
 OTHERS = {
+    "table::fitness::all_periods": "the bits of a value",
     "log_entries::put": "the kinds and values of a row, slices of any length",
     "buffers::clear": "a buffer of any length",
     "frame_rounds::ten": "the rounds",

@@ -1,4 +1,4 @@
-// Numbers that look random and are the same in every run of a test.
+// Numbers that look random and are the same in every run of a test, and powers of two.
 #include "numbers.h"
 
 // xorshift
@@ -8,4 +8,8 @@ uint32_t below(uint32_t limit) {
     state ^= state >> 17;
     state ^= state << 5;
     return state % limit;
+}
+
+uint32_t power(uint32_t exponent) {
+    return (uint32_t)1 << exponent;
 }

@@ -2,6 +2,7 @@
 // group alone. Prints a line of counts for each group of calls and the first calls that differ; exits with 1 if any differs, or if
 // comparisons are missing. The twentieth difference ends it.
 #include "cippazhey.h"
+#include "fit_tables.h"
 #include "scratch.h"
 #include "trial.h"
 
@@ -20,6 +21,19 @@ static void dirty_scratch_of_p2(struct trial p2) {
     expect(&p2, 13, "P7, dirty");
 }
 
+// Tables that are even without being full: the valve maker's, another without 0, one that has no 3 beside its 0, 1 and 2, and P5's with the
+// greatest m and with one above it.
+static void tables_of_the_request(const struct trial *p5) {
+    const struct trial valve = {{2, 1, 2, 0, 1, 0, 2, 0, 1, 0}, {0, 3}, {0}, 2, 2};
+    const struct trial without_0 = {{2, 1, 2, 0, 1, 0, 2, 0, 1, 0}, {2, 1}, {0}, 2, 2};
+    const struct trial not_closed = {{2, 2, 3, 0, 1, 2, 3, 0, 2, 0}, {0, 1, 2, 4}, {0}, 4, 4};
+    expect_whole(&valve, 1, (const uint8_t[]){2, 1}, "0, 3");
+    expect_whole(&without_0, 3, (const uint8_t[]){0, 3}, "2, 1");
+    expect(&not_closed, 7, "0, 1, 2, 4");
+    expect_with(p5, M, 8, 0, "P5 with m = 8");
+    expect_with(p5, M, 9, 4, "P5 with m = 9");
+}
+
 static void bench_sheet(void) {
     const struct trial p1 = {{2, 1, 1, 0, 1, 0, 0, 1, 1, 0}, {1, 0}, {0}, 2, 2};
     const struct trial p2 = {{2, 2, 2, 0, 1, 2, 3, 0, 2, 0}, {2, 0, 3, 1}, {0}, 4, 4};
@@ -33,7 +47,7 @@ static void bench_sheet(void) {
     expect_whole(&p3, 2, (const uint8_t[]){0, 0, 1, 0}, "P3");
     expect_with(&p2, X0, 4, 10, "P4");
     expect_with(&p2, X0, 3, 0, "P4, accepted");
-    expect(&p5, 4, "P5");
+    expect_whole(&p5, 2, (const uint8_t[]){3, 1, 2, 0}, "P5");
     expect(&p6, 7, "P6");
     expect(&p6_accepted, 0, "P6, accepted");
     expect_lengths(p2, 4, 3, 13, "P7");
@@ -44,6 +58,7 @@ static void bench_sheet(void) {
     expect_dirt(p2, 0, 1, 19, "P2, dirty in its first byte");
     expect_dirt(p2, 3, 1, 19, "P2, dirty in its last byte");
     dirty_scratch_of_p2(p2);
+    tables_of_the_request(&p5);
 }
 
 // Each refusal, with what is just inside and just outside, and numbers that come into range when they are cut to 8 or 16 bits.
@@ -57,11 +72,12 @@ static void number_bounds(const struct trial *fine, int place, uint32_t limit, u
     }
 }
 
+// With one entry changed no table of more than two entries stays fit, and each of two does.
 static void entry_bounds(const struct trial *fine, uint32_t values) {
     for (size_t place = 0; place < fine->table_length; place++) {
         struct trial changed = *fine;
         changed.table[place] = (uint8_t)(values - 1);
-        expect(&changed, fine->table[place] == values - 1 ? 0 : 7, "largest entry");
+        expect(&changed, fine->table[place] == values - 1 || fine->table_length == 2 ? 0 : 7, "largest entry");
         if (values < 256) {
             changed.table[place] = (uint8_t)values;
             expect(&changed, 6, "entry too large");
@@ -79,7 +95,7 @@ static void widths_and_methods(const struct trial *fine, uint32_t n) {
         expect_with(fine, N, no_widths[each], 3, "input width");
         expect_with(fine, M, no_widths[each], 4, "output width");
     }
-    expect_with(fine, M, n + 1, 4, "output width above the input width");
+    expect_with(fine, M, 8, 0, "greatest output width");
 }
 
 static void neighbours_at(uint32_t method, uint32_t n, uint32_t m) {
@@ -108,7 +124,7 @@ static void neighbours_at(uint32_t method, uint32_t n, uint32_t m) {
 
 static void neighbours(void) {
     for (uint32_t n = 1; n <= 8; n++) {
-        for (uint32_t m = 1; m <= n; m++) {
+        for (uint32_t m = 1; m <= 8; m++) {
             neighbours_at(2, n, m);
             neighbours_at(3, n, m);
         }
@@ -130,15 +146,15 @@ static void add_dirt(struct trial *trial, uint32_t n) {
 }
 
 // Gives an accepted call one fault that does not take away another's, but for dirt in scratch that becomes empty. The table's two are
-// applied with 7 before 6.
+// applied with 7 before 6, and not to one entry. At n = 1 there is none for 7.
 static void add_fault(struct trial *trial, unsigned refusal, uint32_t n, uint32_t m) {
     switch (refusal) {
     case 2: trial->number[METHOD] = below(2) ? 4 : 258; break;
     case 3: trial->number[N] = below(2) ? 9 : 0; break;
-    case 4: trial->number[M] = below(2) ? n + 1 : 0; break;
+    case 4: trial->number[M] = below(2) ? 9 : 0; break;
     case 5: trial->table_length = below(2) ? power(n) + 1 : power(n) - 1; break;
     case 6: trial->table[below(power(n) - 1)] = (uint8_t)power(m); break;
-    case 7: memset(trial->table, 0, power(n)); break;
+    case 7: trial->table[power(n) - 1] ^= 1; break;
     case 10: trial->number[(const int[]){X0, R1, R2, R3}[below(4)]] = below(2) ? power(n) : UINT32_MAX; break;
     case 11: trial->number[below(2) ? S1 : S2] = below(2) ? power(m) : 256; break;
     case 12: trial->number[B] = below(2) ? 2 : 256; break;
@@ -163,18 +179,20 @@ static void several_faults_at(uint32_t method, uint32_t n, uint32_t m) {
 
 static void several_faults(void) {
     for (uint32_t method = 2; method <= 3; method++) {
-        several_faults_at(method, 1, 1);
+        several_faults_at(method, 2, 1);
+        several_faults_at(method, 2, 5);
         several_faults_at(method, 3, 2);
         several_faults_at(method, 8, 7);
     }
 }
 
-// Small widths whole: every table, every mask.
+// Small widths whole: every table, with every choice of masks or some.
 
-static void every_mask(struct trial trial, uint32_t n, uint32_t m) {
-    uint32_t entries = power(n), values = power(m);
+// The choices by their numbers: a first one, and each that many behind the last.
+static void choices_of_masks(struct trial trial, uint32_t first, uint32_t step) {
+    uint32_t entries = power(trial.number[N]), values = power(trial.number[M]);
     uint32_t choices = entries * entries * entries * entries * values * values * 3;
-    for (uint32_t choice = 0; choice < choices; choice++) {
+    for (uint32_t choice = first; choice < choices; choice += step) {
         uint32_t rest = choice / 3;
         trial.number[METHOD] = choice % 3 == 0 ? 2 : 3;
         trial.number[B] = choice % 3 == 2 ? 1 : 0;
@@ -187,8 +205,9 @@ static void every_mask(struct trial trial, uint32_t n, uint32_t m) {
     }
 }
 
-// Every table of entries from 0 to 2^m: those that hold 2^m meet 6, the unbalanced ones 7, and the others take every mask.
-static void every_table(uint32_t n, uint32_t m, uint32_t balanced_tables) {
+// Every table of entries from 0 to 2^m: those that hold 2^m meet 6, those that are not fit 7, and the others take the choices, from
+// another first one each.
+static void every_table(uint32_t n, uint32_t m, uint32_t fit, uint32_t step) {
     uint32_t tables = 1, accepted_tables = 0;
     for (uint32_t place = 0; place < power(n); place++) {
         tables *= power(m) + 1;
@@ -202,17 +221,21 @@ static void every_table(uint32_t n, uint32_t m, uint32_t balanced_tables) {
             rest /= power(m) + 1;
         }
         if (cippazhey_refusal_of(compare(&trial, "small table")) == CIPPAZHEY_ACCEPTED) {
+            choices_of_masks(trial, accepted_tables % step, step);
             accepted_tables++;
-            every_mask(trial, n, m);
         }
     }
-    record(accepted_tables == balanced_tables, "number of balanced tables");
+    record(accepted_tables == fit, "number of fit tables");
 }
 
+// How many tables are fit: those of one value, of two and of four, each time the cosets of so many times the orders of their values.
 static void small_widths(void) {
-    every_table(1, 1, 2);
-    every_table(2, 1, 6);
-    every_table(2, 2, 24);
+    every_table(1, 1, 2 + 1 * 2, 1);
+    every_table(1, 2, 4 + 6 * 2, 1);
+    every_table(2, 1, 2 + 1 * 6, 1);
+    every_table(2, 2, 4 + 6 * 6 + 1 * 24, 1);
+    every_table(2, 3, 8 + 28 * 6 + 14 * 24, 193);
+    every_table(3, 1, 2 + 1 * 70, 193);
 }
 
 // Random calls, some of them damaged.
@@ -239,7 +262,7 @@ static void random_calls(void) {
     memset(met, 0, sizeof met);
     for (int turn = 0; turn < RANDOM_CALLS; turn++) {
         uint32_t n = 1 + below(8);
-        struct trial trial = accepted(2 + below(2), n, 1 + below(n));
+        struct trial trial = accepted(2 + below(2), n, 1 + below(8));
         if (below(2) == 0) {
             trial.scratch_length += below(LONGEST - 256);
         }
@@ -256,12 +279,13 @@ static void random_calls(void) {
 
 // One that makes fewer comparisons has left some out.
 static const struct group groups[] = {
-    {"bench_sheet", bench_sheet, 17},
-    {"neighbours_of_refusals", neighbours, 30004},
-    {"several_faults_at_once", several_faults, 12282},
+    {"bench_sheet", bench_sheet, 22},
+    {"neighbours_of_refusals", neighbours, 39460},
+    {"several_faults_at_once", several_faults, 16376},
     {"long_buffers", long_buffers, 288},
-    {"small_widths_whole", small_widths, 314446},
-    {"calls_in_a_row", calls_in_a_row, 1191},
+    {"fit_tables", fit_tables, 13584},
+    {"small_widths_whole", small_widths, 986726},
+    {"calls_in_a_row", calls_in_a_row, 2117},
     {"random_calls", random_calls, 100012},
 };
 

@@ -4,20 +4,54 @@
 
 #include <stdbool.h>
 
-// Whether each value below `values` stands in the table equally often.
-static bool balanced(const uint8_t *table, size_t entries, size_t values) {
-    for (size_t value = 0; value < values; value++) {
-        size_t times = 0;
-        for (size_t place = 0; place < entries; place++) {
-            if (table[place] == value) {
-                times++;
-            }
+// The values that occur in a table, each once, and how often every value does.
+struct occurring {
+    uint8_t value[256];
+    size_t values, times[256];
+};
+
+static struct occurring occurring_in(const uint8_t *table, size_t entries) {
+    struct occurring found = {{0}, 0, {0}};
+    for (size_t place = 0; place < entries; place++) {
+        if (found.times[table[place]] == 0) {
+            found.value[found.values++] = table[place];
         }
-        if (times * values != entries) {
+        found.times[table[place]]++;
+    }
+    return found;
+}
+
+// Whether all values that occur do so equally often.
+static bool equally_often(const struct occurring *found) {
+    for (size_t each = 0; each < found->values; each++) {
+        if (found->times[found->value[each]] != found->times[found->value[0]]) {
             return false;
         }
     }
     return true;
+}
+
+// Whether the exclusive or of any three values that occur, repeats allowed, occurs as well. Pairs with the same exclusive or are one.
+static bool closed(const struct occurring *found) {
+    bool of_two[256] = {false};
+    for (size_t one = 0; one < found->values; one++) {
+        for (size_t two = 0; two < found->values; two++) {
+            of_two[found->value[one] ^ found->value[two]] = true;
+        }
+    }
+    for (size_t pair = 0; pair < 256; pair++) {
+        for (size_t three = 0; of_two[pair] && three < found->values; three++) {
+            if (found->times[pair ^ found->value[three]] == 0) {
+                return false;
+            }
+        }
+    }
+    return true;
+}
+
+static bool fit(const uint8_t *table, size_t entries) {
+    struct occurring found = occurring_in(table, entries);
+    return equally_often(&found) && closed(&found);
 }
 
 static unsigned table_refusal(struct lookup call) {
@@ -27,7 +61,7 @@ static unsigned table_refusal(struct lookup call) {
     if (call.n < 1 || call.n > 8) {
         return 3;
     }
-    if (call.m < 1 || call.m > call.n) {
+    if (call.m < 1 || call.m > 8) {
         return 4;
     }
     size_t entries = (size_t)1 << call.n;
@@ -40,7 +74,7 @@ static unsigned table_refusal(struct lookup call) {
             return 6;
         }
     }
-    if (!balanced(call.table, entries, values)) {
+    if (!fit(call.table, entries)) {
         return 7;
     }
     return 0;

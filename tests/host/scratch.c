@@ -53,7 +53,7 @@ static void fill_long_scratch(size_t clean, uint8_t rest) {
 }
 
 static void long_buffers_at(uint32_t n, size_t length) {
-    struct trial trial = accepted(2 + below(2), n, 1 + below(n));
+    struct trial trial = accepted(2 + below(2), n, 1 + below(8));
     memcpy(long_table, trial.table, power(n));
     fill_long_scratch(power(n), 170);
     trial.scratch_length = length;
@@ -66,7 +66,7 @@ static void long_buffers_at(uint32_t n, size_t length) {
 
 // One dirty byte in long scratch. Behind 2^n it does not matter, wherever its place comes to when it is cut.
 static void dirt_in_long_scratch(uint32_t n, size_t place) {
-    struct trial trial = accepted(2 + below(2), n, 1 + below(n));
+    struct trial trial = accepted(2 + below(2), n, 1 + below(8));
     trial.scratch_length = LONG;
     fill_long_scratch(LONG, 0);
     long_scratch[place] = wanted_scratch[place] = (uint8_t)(1 + below(255));
@@ -106,7 +106,8 @@ static uint16_t call_on_own_scratch(struct trial *trial, uint32_t method, uint32
     return make_call(trial, trial->table, trial->scratch);
 }
 
-// What a call leaves is never all zero, since method 2 leaves every value and method 3 both bits. So neither method takes it at that width.
+// What a call leaves is not all zero, since method 3 leaves both bits, and method 2 two values or one that the masks do not make zero. So
+// neither method takes it at that width.
 static void calls_on_used_scratch(struct trial *trial, uint32_t method, uint32_t b, const uint8_t left[LONGEST]) {
     const uint16_t dirty = 256 * CIPPAZHEY_REFUSED_DIRTY_SCRATCH;
     record(call_on_own_scratch(trial, method, b) == dirty, "the same call on what the first left");
@@ -142,11 +143,20 @@ static void narrower_call(void) {
     record(memcmp(p3.scratch, (const uint8_t[]){0, 1, 1, 0}, 4) == 0, "what P1 leaves of it");
 }
 
+// Method 2 leaves zeros of a constant table whose value the masks make zero, and is taken again.
+static void constant_table(void) {
+    struct trial trial = {{2, 2, 2, 0, 1, 2, 1, 2, 2, 0}, {3, 3, 3, 3}, {0}, 4, 4};
+    record(call_on_own_scratch(&trial, 2, 0) == 0 && all_zero(trial.scratch, 4), "3, 3, 3, 3 under masks that make zero of it");
+    record(call_on_own_scratch(&trial, 2, 0) == 0 && all_zero(trial.scratch, 4), "the same call on the zeros that the first left");
+}
+
 void calls_in_a_row(void) {
     narrower_call();
+    constant_table();
     for (uint32_t n = 1; n <= 8; n++) {
-        for (uint32_t m = 1; m <= n; m++) {
+        for (uint32_t m = 1; m <= 8; m++) {
             struct trial trial = accepted(2, n, m);
+            trial.number[S1] = trial.table[0] ^ trial.number[S2] ^ 1; // so that the table's first value does not become zero
             trial.scratch_length += below(LONGEST - 256);
             calls_in_a_row_at(trial, 2, 0);
             calls_in_a_row_at(trial, 3, 0);

@@ -3,6 +3,7 @@
 
 #include "cippazhey.h"
 #include "reference.h"
+#include "tables.h"
 
 #include <stdio.h>
 #include <string.h>
@@ -10,19 +11,6 @@
 enum { GUARD = 64, ROOM = GUARD + LONGEST + GUARD };
 
 unsigned long met[256];
-
-uint32_t power(uint32_t exponent) {
-    return (uint32_t)1 << exponent;
-}
-
-// A table with each value equally often, in random order.
-static void fill_balanced(uint8_t *table, size_t entries, size_t values) {
-    for (size_t place = 0; place < entries; place++) {
-        size_t other = below((uint32_t)place + 1);
-        table[place] = table[other];
-        table[other] = (uint8_t)(place % values);
-    }
-}
 
 // Bytes of which none is zero. They differ from place to place, and by the first of them from one filling to the next.
 static void fill_dirty(uint8_t *bytes, size_t count) {
@@ -36,7 +24,7 @@ void make_dirty(struct trial *trial, size_t from) {
     fill_dirty(trial->scratch + from, LONGEST - from);
 }
 
-struct trial accepted(uint32_t method, uint32_t n, uint32_t m) {
+struct trial on_zeros(uint32_t method, uint32_t n, uint32_t m) {
     uint32_t entries = power(n), values = power(m);
     struct trial trial = {{method, n, m, 0, 0, 0, 0, 0, 0, method == 3 ? below(2) : 0}, {0}, {0}, entries, entries};
     trial.number[X0] = below(entries);
@@ -45,8 +33,19 @@ struct trial accepted(uint32_t method, uint32_t n, uint32_t m) {
     trial.number[R3] = below(entries);
     trial.number[S1] = below(values);
     trial.number[S2] = below(values);
-    fill_balanced(trial.table, entries, values);
     make_dirty(&trial, entries);
+    return trial;
+}
+
+// Any rank that these widths have, or the greatest, which is m where m is not above n.
+static uint32_t some_rank(uint32_t n, uint32_t m) {
+    uint32_t greatest = m < n ? m : n;
+    return below(2) ? below(greatest + 1) : greatest;
+}
+
+struct trial accepted(uint32_t method, uint32_t n, uint32_t m) {
+    struct trial trial = on_zeros(method, n, m);
+    fill_fit(trial.table, (struct shape){n, m, some_rank(n, m)});
     return trial;
 }
 

@@ -22,14 +22,14 @@ struct trial {
 // How many calls met each refusal.
 extern unsigned long met[256];
 
-// 2 to the exponent.
-uint32_t power(uint32_t exponent);
-
 // Fills scratch from a place on, as far as any length, with bytes of which none is zero.
 void make_dirty(struct trial *trial, size_t from);
 
-// A call that is accepted: random masks, a random balanced table, and scratch that just suffices. Scratch is zero in its first 2^n bytes
-// and dirty behind them, so that it shows where a call that is lent more looks or writes there.
+// A call that is accepted: random masks, a table of zeros, and scratch that just suffices. Scratch is zero in its first 2^n bytes and dirty
+// behind them, so that it shows where a call that is lent more looks or writes there.
+struct trial on_zeros(uint32_t method, uint32_t n, uint32_t m);
+
+// The same on a random table that is fit. Where m is not above n, half of the tables are balanced, or more.
 struct trial accepted(uint32_t method, uint32_t n, uint32_t m);
 
 // The result of the exported call and of the reference, on the buffers given.

@@ -1,19 +1,20 @@
 # The control of tests/host/plain_call_test.c: wrong calls, each of which the group named beside it must notice. A wrong call is the
 # reference with an edit, exported in the place of the archive's call; the reference that it is compared with may have the edit too, and
-# then the test's own figures must notice it. Run: python3 tests/host/wrong_calls.py (status 0 if the unedited reference passes whole and
-# every wrong call is noticed, 1 otherwise, with a line for each that is not).
+# then the test's own figures must notice it. Run: python3 tests/host/wrong_calls.py (status 0 if the unedited reference passes whole, also
+# with the library's way to find out what is fit, and every wrong call is noticed; 1 otherwise, with a line for each that is not).
 import subprocess
 import sys
 from pathlib import Path
 
 from controls import end_control
+from wrong_tables import EVERY_TABLE, FIT_TABLES, OLD_RULE, OTHER_RULES, fit_by_periods
 
 HOST = Path(__file__).resolve().parent
 sys.path.insert(0, str(HOST.parent / "model"))
 from edits import edited
 
 COMPILE = ["cc", "-std=c99", "-O2", f"-I{HOST}", f"-I{HOST.parents[1] / 'include'}"]
-TEST = ("plain_call_test", "scratch", "trial", "numbers", "groups")
+TEST = ("plain_call_test", "scratch", "fit_tables", "tables", "trial", "numbers", "groups")
 # The copy that is called stands beside the reference that it is compared with.
 RENAMED = "-Dreference_plain_call=wrong_plain_call"
 
@@ -73,7 +74,9 @@ BENCH_SHEET = {
     "the other register": ("return registers[call.b];", "return registers[1 - call.b];"),
     "one fixed share": (LAST_LINE, "    return 2;\n"),
     "all refused": (FIRST_LINE, "    unsigned number = 2;\n"),
-    "unbalanced tables accepted": ("!= entries) {\n            return false;", "!= entries) {\n            return true;"),
+    **EVERY_TABLE,
+    **OLD_RULE,
+    **OTHER_RULES,
     "scratch untouched": before("    uint8_t share = call", "uint8_t other[256];", "scratch = other;"),
     "b ignored": before("    uint8_t registers[2]", "call.b = 0;"),
     "r3 ignored": before("    uint32_t r_prime", "call.r3 = 0;"),
@@ -95,7 +98,10 @@ NEIGHBOURS = {
     "13 at 2^n": ("scratch_length < entries", "scratch_length <= entries"),
     "b = 1 under method 2": ("call.method == 2 && call.b > 0", "call.method == 2 && call.b > 1"),
     "long tables accepted": ("call.table_length != entries", "call.table_length < entries"),
-    "m up to 8": ("call.m > call.n", "call.m > 8"),
+    "m up to n": ("call.m > 8", "call.m > call.n"),
+    "m up to 7": ("call.m > 8", "call.m > 7"),
+    "m up to 9": ("call.m > 8", "call.m > 9"),
+    "m up to n or 4": ("call.m > 8", "call.m > (call.n > 4 ? call.n : 4)"),
     "x0 up to 255": ("call.x0 >= entries", "call.x0 >= 256"),
     "2^m allowed in the table": ("call.table[place] >= values", "call.table[place] > values"),
     "a share beside the refusal": ("number * 256", "number * 256 + 1"),
@@ -124,11 +130,13 @@ NEIGHBOURS = {
 }
 SEVERAL_FAULTS = {
     "3 before 2": check_before("    if (call.method != 2", "call.n < 1 || call.n > 8", 3),
-    "4 before 3": check_before("    if (call.n < 1", "call.m < 1 || (call.m > call.n && call.n > 0)", 4),
+    "4 before 3": check_before("    if (call.n < 1", "call.m < 1 || call.m > 8", 4),
     "5 before 4": check_before("    if (call.m < 1", "call.table_length != (size_t)1 << call.n", 5),
     "7 before 6": check_before(
-        "    for (size_t place = 0; place < entries; place++) {\n        if (call.table[place] >=", "!balanced(call.table, entries, values)", 7
+        "    for (size_t place = 0; place < entries; place++) {\n        if (call.table[place] >=", "!fit(call.table, entries)", 7
     ),
+    "7 before 5": check_before("    if (call.table_length", "call.table_length > entries && !fit(call.table, entries)", 7),
+    "7 before 4": check_before("    if (call.m < 1", "call.table_length == (size_t)1 << call.n && !fit(call.table, call.table_length)", 7),
     "6 before 5": check_before("    if (call.table_length", "call.table[0] >= values", 6),
     "11 before 10": check_before("    if (call.x0 >=", "call.s1 >= values || call.s2 >= values", 11),
     "12 before 11": check_before("    if (call.s1 >=", "call.b > 1", 12),
@@ -154,7 +162,8 @@ LONG_BUFFERS = {
 SMALL_WIDTHS = {
     "one choice of masks": before(LAST_LINE, "share ^= call.n == 2 && call.r1 == 3 && call.r2 == 1 && call.r3 == 2 && call.s1 == 1;"),
     "one table": before(FIRST_LINE, "if (call.n == 2 && call.table[0] == 1 && call.table[1] == 0 && call.table[2] == 3) { return 0; }"),
-    "only the count of 0": ("value < values; value++", "value < 1; value++"),
+    **OLD_RULE,
+    **OTHER_RULES,
     "method 2 where b is 0": before(FIRST_LINE, "call.method = call.method == 3 && call.b == 0 ? 2 : call.method;"),
 }
 CALLS_IN_A_ROW = {
@@ -175,6 +184,7 @@ WRONG_CALLS = {
     "neighbours_of_refusals": NEIGHBOURS,
     "several_faults_at_once": SEVERAL_FAULTS,
     "long_buffers": LONG_BUFFERS,
+    "fit_tables": FIT_TABLES,
     "small_widths_whole": SMALL_WIDTHS,
     "calls_in_a_row": CALLS_IN_A_ROW,
     "random_calls": RANDOM_CALLS,
@@ -184,11 +194,17 @@ COMMON_FAULTS = {
     "bench_sheet": {
         "scratch cleared": before("    return registers[call.b];", "scratch[call.r3] = 0;"),
         "dirty scratch accepted": BENCH_SHEET["dirty scratch accepted"],
+        **EVERY_TABLE,
+        **OLD_RULE,
+        **OTHER_RULES,
     },
     "neighbours_of_refusals": {
         name: NEIGHBOURS[name]
         for name in (
             "10 for 11",
+            "m up to n",
+            "m up to 7",
+            "m up to 9",
             "scratch written on refusal",
             "13 for 19",
             "19 with one byte fewer",
@@ -196,9 +212,10 @@ COMMON_FAULTS = {
             "19 and the scratch cleared",
         )
     },
-    "several_faults_at_once": {name: SEVERAL_FAULTS[name] for name in ("13 before 12", "19 before 13", "19 before 12")},
+    "several_faults_at_once": {name: SEVERAL_FAULTS[name] for name in ("7 before 6", "13 before 12", "19 before 13", "19 before 12")},
     "long_buffers": {name: LONG_BUFFERS[name] for name in ("table length cut to 16 bits", "place of a dirty byte cut to 16 bits")},
-    "small_widths_whole": {name: SMALL_WIDTHS[name] for name in ("only the count of 0",)},
+    "fit_tables": {**OLD_RULE, **OTHER_RULES},
+    "small_widths_whole": {name: OTHER_RULES[name] for name in ("unequal counts accepted", "unclosed tables accepted")},
     "calls_in_a_row": CALLS_IN_A_ROW,
     "random_calls": {name: RANDOM_CALLS[name] for name in ("one x0 at one width",)},
 }
@@ -227,8 +244,9 @@ def run(folder, copy, *group, common=False):
 def complaints(folder):
     build_objects(folder)
     reference = (HOST / "reference.c").read_text()
-    if run(folder, reference).returncode != 0:
-        yield "the reference itself does not pass"
+    for right in (reference, edited(reference, *fit_by_periods())):
+        if run(folder, right).returncode != 0:
+            yield "the reference itself does not pass, or not by periods"
     for common, groups in ((False, WRONG_CALLS), (True, COMMON_FAULTS)):
         for group, calls in groups.items():
             for name, (old, new) in calls.items():

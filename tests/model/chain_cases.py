@@ -6,15 +6,12 @@ from collections import namedtuple
 
 import chain
 import logged_cases
-from logged_cases import OTHER_FAULTS, P1, P2, P3, TABLE_FAULTS, accepted, chance, roomier, with_buffers, with_numbers
+from logged_cases import OTHER_FAULTS, P1, P2, P3, TABLE_FAULTS, VALVE
+from logged_cases import accepted, any_method, chance, roomier, with_buffers, with_numbers
 from model import Case
 
 # A chained call: two calls as in logged_cases.py.
 Chain = namedtuple("Chain", "first second")
-
-
-def any_method():
-    return chance.choice((2, 3))
 
 
 def accepted_chain(n, m, last, methods=None):
@@ -27,12 +24,14 @@ def in_either(call):
     n, m = (width if 1 <= width <= 8 else chance.randint(1, 8) for width in call.case[1:3])
     if chance.choice((True, False)):
         return Chain(call, accepted(any_method(), m))
-    return Chain(accepted(any_method(), chance.randint(n, 8), n), call)
+    return Chain(accepted(any_method(), chance.randint(1, 8), n), call)
 
 
-# P1, P2 and P3 of the bench sheet, each before a call that looks up what they find, 0 or 1.
+# P1, P2 and P3 of the bench sheet, each before a call that looks up what they find, 0 or 1. The valve maker's table before P2's and behind
+# P1.
 def bench_sheet():
     yield Chain(P1, with_buffers(Case(2, 1, 1, 1, 0, 1, 1, 1, 0, 0), [1, 0]))
+    yield from (Chain(VALVE, P2), Chain(VALVE, P3), Chain(P1, VALVE))
     case = Case(2, 2, 1, 2, 3, 0, 1, 0, 2, 0)
     for second in (case, case._replace(method=3, b=1)):
         yield from (Chain(first, with_buffers(second, [0, 1, 1, 0])) for first in (P2, P3))
@@ -41,29 +40,33 @@ def bench_sheet():
 # Each pairing of methods, with buffers that just suffice and longer ones.
 def every_pairing():
     for methods in ((2, 2), (2, 3), (3, 2), (3, 3)):
-        for widths in ((1, 1, 1), (2, 1, 1), (2, 2, 1), (2, 2, 2), (3, 2, 1), (8, 8, 8)):
+        for widths in ((1, 1, 1), (2, 1, 1), (2, 2, 1), (1, 2, 2), (1, 2, 3), (3, 2, 1), (8, 8, 8)):
             yield accepted_chain(*widths, methods)
             yield Chain(*map(roomier, accepted_chain(*widths, methods)))
 
 
+# Every pair of widths in the first call, and in the second.
 def every_width():
     for n in range(1, 9):
-        for m in range(1, n + 1):
-            yield from (accepted_chain(n, m, last) for last in range(1, m + 1))
+        for m in range(1, 9):
+            other = chance.randint(1, 8)
+            yield from (accepted_chain(n, m, other), accepted_chain(other, n, m))
 
 
 # The first's m is one less or more than the second's n, or far from it.
 def unequal_widths():
     for m in range(1, 9):
         for n in sorted({1, m - 1, m + 1, 8} - {0, m, 9}):
-            yield Chain(accepted(any_method(), chance.randint(m, 8), m), roomier(accepted(any_method(), n)))
+            yield Chain(accepted(any_method(), chance.randint(1, 8), m), roomier(accepted(any_method(), n)))
 
 
 # The refusals of one call and what is just inside, in either call.
 def one_faulty():
-    for kind in logged_cases.KINDS:
-        if kind not in (logged_cases.bench_sheet, logged_cases.every_width, logged_cases.two_faults):
+    calls = logged_cases
+    for kind in calls.KINDS:
+        if kind not in (calls.bench_sheet, calls.every_width, calls.named_tables, calls.small_tables, calls.unfit_tables, calls.two_faults):
             yield from map(in_either, kind())
+    yield from map(in_either, list(calls.unfit_tables())[::3])
 
 
 def in_first(fault):
@@ -96,8 +99,8 @@ def two_faults():
     ]
     for at, fault in enumerate(faults):
         for other in faults[at:]:
-            n = chance.choice((2, 4)) if unequal in (fault, other) else 3
-            fine = Chain(accepted(any_method(), 4, 3), accepted(any_method(), n, 2))
+            n = chance.choice((3, 5)) if unequal in (fault, other) else 4
+            fine = Chain(accepted(any_method(), chance.choice((3, 5)), 4), accepted(any_method(), n, chance.choice((2, 6))))
             yield other(fault(fine, fine), fine)
 
 

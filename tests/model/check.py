@@ -6,14 +6,16 @@ import check_calls
 import check_chain
 import check_counts
 import check_frame
+import check_leaks
 import check_print
 import check_sbox
 import check_screening
 import check_small
+import check_tables
 
 # For each module, what holds it to them. The quick parts come first: a wrong model is then noticed sooner.
 PARTS = {
-    "model": (check_small, check_print, check_calls),
+    "model": (check_small, check_print, check_calls, check_tables, check_leaks),
     "counts": (check_counts,),
     "chain": (check_chain,),
     "sbox": (check_sbox,),

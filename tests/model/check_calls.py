@@ -1,5 +1,7 @@
 # Holds the model's logged and plain call, its clearing, its logs and its counts to what is required of them (docs/REFERENCE.md). Each
 # group yields a name, what the model says and what it should say.
+import itertools
+
 import model
 from document import KINDS, LENGTHS, TABLE_A
 from model import Case
@@ -32,7 +34,7 @@ def bench_sheet():
     yield "P3", outcome(P3, TABLE_A), (0, 2, [0, 0, 1, 0])
     yield "P4 refused", refusal_of(P2._replace(x0=4), TABLE_A), 10
     yield "P4 accepted", refusal_of(P2._replace(x0=3), TABLE_A), 0
-    yield "P5", refusal_of(P2._replace(m=3), TABLE_A), 4
+    yield "P5", outcome(P2._replace(m=3), TABLE_A), (0, 2, [3, 1, 2, 0])
     yield "P6 refused", refusal_of(P6, [0, 0, 0, 1]), 7
     for secret in range(4):
         accepted = {refusal_of(case, [0, 1, 1, 0]) for case in model.choices(2, 2, 1, secret)}
@@ -103,8 +105,9 @@ def whole_log(case, table):
 # Accepted cases under both methods at small widths, every choice of masks for a secret each: the case, its table and the share S[x] with
 # both output masks.
 def accepted_cases():
-    tables = {(1, 1): [1, 0], (2, 1): [0, 1, 1, 0], (2, 2): TABLE_A}
-    for method, n, m, secret in ((2, 1, 1, 0), (3, 1, 1, 1), (2, 2, 1, 3), (3, 2, 1, 2), (2, 2, 2, 1), (3, 2, 2, 3)):
+    tables = {(1, 1): [1, 0], (1, 2): [0, 3], (1, 3): [5, 5], (2, 1): [0, 1, 1, 0], (2, 2): TABLE_A, (2, 3): [1, 2, 4, 7]}
+    balanced = (2, 1, 1, 0), (3, 1, 1, 1), (2, 2, 1, 3), (3, 2, 1, 2), (2, 2, 2, 1), (3, 2, 2, 3)
+    for method, n, m, secret in (*balanced, (2, 1, 2, 1), (3, 1, 2, 0), (2, 1, 3, 0), (2, 2, 3, 2)):
         table = tables[n, m]
         for case in model.choices(method, n, m, secret):
             yield case, table, table[secret] ^ case.s1 ^ case.s2
@@ -123,15 +126,17 @@ def answers():
         yield (case, "exported"), model.exported_call(case, table, lent), (share, scratch)
 
 
-# No call leaves its scratch clean: method 2 leaves every value below 2^m in it, and method 3 both b and 1 - b. So the same call on what it
-# left is refused, and on that cleared it answers again.
+# Method 2 leaves all values of the table in the scratch, each with both output masks, and method 3 both b and 1 - b. So the scratch is
+# clean only where one value alone occurs and the masks cancel it. Else the same call on what it left is refused, and on that cleared it
+# answers again.
 def repeats():
     for case, table, share in accepted_cases():
         log = [7] * 50
         first = model.logged_call(case, table, [0] * 2**case.n, log)
         left = first[3]
-        yield (case, "again, logged"), model.logged_call(case, table, left, log), (19, 0, 0, left, log)
-        yield (case, "again, plain"), model.plain_call(case, table, left), (19, 0, 0, left)
+        clean = case.method == 2 and set(table) == {case.s1 ^ case.s2}
+        yield (case, "again, logged"), model.logged_call(case, table, left, log), first if clean else (19, 0, 0, left, log)
+        yield (case, "again, plain"), model.plain_call(case, table, left), (0, 0, 0, left) if clean else (19, 0, 0, left)
         yield (case, "cleared, logged"), model.logged_call(case, table, model.clear(left), log), first
         yield (case, "cleared, plain"), model.plain_call(case, table, model.clear(left)), (0, share, 0, left)
 
@@ -156,14 +161,14 @@ def fine_call(n, m, table):
 
 # Faults of it, in the order of the checks: the refusal, what is faulty and what stands there.
 def faults(n, m, table):
-    rest = [0] * (2**n - 1)
+    rest, unclosed = [0] * (2**n - 1), [[0, 1, 2, 4] * 2 ** (n - 2)] if m > 2 else []
     return [
         *((2, "method", value) for value in (0, 1, 4, 258, 2**32 - 1)),
         *((3, "n", value) for value in (0, 9, 256 + n)),
-        *((4, "m", value) for value in (0, n + 1, 9, 256 + m)),
+        *((4, "m", value) for value in (0, 9, 256 + m)),
         *((5, "table", value) for value in ([], table[:-1], [*table, 1], [*table, 2**m])),
-        *((6, "table", value) for value in ([2**m, *table[1:]], [*table[:-1], 2**m], [*rest, 255])),
-        *((7, "table", value) for value in ([*rest, 1], [1 - byte for byte in (*rest, 1)], [*rest, 0])),
+        *((6, "table", value) for value in ([2**m, *table[1:]], [*table[:-1], 2**m], [2**m] * 2**n, [*rest, 255])),
+        *((7, "table", value) for value in ([*rest, 1], [1 - byte for byte in (*rest, 1)], *unclosed)),
         *((10, name, value) for name in ("x0", "r1", "r2", "r3") for value in (2**n, 256)),
         *((11, name, value) for name in ("s1", "s2") for value in (2**m, 256)),
         *((12, "b", value) for value in (2, 256)),
@@ -176,7 +181,9 @@ def faults(n, m, table):
     ]
 
 
-FINE, FAULTS = fine_call(2, 1, [0, 1, 1, 0]), faults(2, 1, [0, 1, 1, 0])
+# With m below n and above it.
+TRIED = (2, 1, [0, 1, 1, 0]), (2, 3, [7, 4, 2, 1])
+FINE = fine_call(*TRIED[0])
 # What stands just inside: the call is still accepted.
 NEIGHBOURS = [
     *(("scratch", [0, 0, 0, 0, *end]) for end in ([], [1], [255], [0, 1], [255, 255, 255])),
@@ -196,11 +203,11 @@ def refused(call, refusal):
 
 # Each fault, and any two in different places: the one that stands first in the order is returned, which is not always the smaller number.
 def refusals():
-    for method in (2, 3):
-        fine = {**FINE, "method": method}
-        for at, (refusal, place, value) in enumerate(FAULTS):
+    for method, tried in itertools.product((2, 3), TRIED):
+        fine, known = {**fine_call(*tried), "method": method}, faults(*tried)
+        for at, (refusal, place, value) in enumerate(known):
             yield from refused({**fine, place: value}, refusal)
-            for _, second, value2 in FAULTS[at:]:
+            for _, second, value2 in known[at:]:
                 if second != place:
                     yield from refused({**fine, place: value, second: value2}, refusal)
 
@@ -242,12 +249,12 @@ def clearing():
 # At every pair of widths, what is just inside is accepted.
 def widths():
     for n in range(1, 9):
-        for m in range(1, n + 1):
-            top, table = 2**n - 1, [value % 2**m for value in range(2**n)]
+        for m in range(1, 9):
+            top, table = 2**n - 1, [2**m - 1 - value % 2**m for value in range(2**n)]
             for method in (2, 3):
                 case = Case(method, n, m, top, top, top, 2**m - 1, 2**m - 1, top, method - 2)
                 share = model.plain_call(case, table, [0] * 2**n)
-                yield f"widths {n} and {m}, method {method}", share[:2], (0, 2**m - 1)
+                yield f"widths {n} and {m}, method {method}", share[:2], (0, table[top])
 
 
 def counts():
@@ -262,17 +269,6 @@ def counts():
         yield f"values above 1 at {secret}", model.pair_counts(TABLE_A, 2, 2, 2, secret, 0, 33)[3, 2], 64
 
 
-# Position 13 is kind 14 at a = 0, and position 33 the answer, at n = 2 under method 2.
-def leaks():
-    for secret, figure in ((0, 96), (3, 32)):
-        pairs = model.pair_counts([0, 0, 0, 1], 2, 2, 1, secret, 13, 33)
-        yield f"unbalanced table at {secret}", pairs[0, 0], figure
-        yield f"choices at {secret}", sum(pairs.values()), 256
-    for secret, figure in ((1, 16), (0, 0)):
-        zeros = [c for c in model.choices(2, 1, 1, secret) if (c.s1 ^ c.s2, model.run(c, [1, 0], [0, 0])[0]) == (0, 0)]
-        yield f"s1 and s2 in one go at {secret}", len(zeros), figure
-
-
 # The quick ones come first.
 GROUPS = (
     lengths,
@@ -281,7 +277,6 @@ GROUPS = (
     refusals,
     widths,
     counts,
-    leaks,
     bench_sheet,
     dirty_bench_calls,
     dirty_places,

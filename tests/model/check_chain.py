@@ -11,6 +11,7 @@ from check_calls import P2, P3, faults, fine_call, log_length, whole_log
 from check_counts import TABLES
 from document import TABLE_A
 from model import Case
+from probes import differing
 
 PAIRINGS = [(2, 2), (2, 3), (3, 2), (3, 3)]
 # The tables of the widths that the refusals are tried at: the first's n, the m that is the second's n, and the second's m all differ.
@@ -41,6 +42,11 @@ def figures():
     yield "P3 and method 3", called(P3, after_p3, tables)[:6], (0, 0, 46, 46, [0, 0, 1, 0, 0], [0, 0, 1, 0, 0])
 
 
+# Entries as large as can be, in another order. Its values are a coset.
+def mixed_table(n, m, factor):
+    return [2**m - 1 - place * factor % 2 ** min(n, m) for place in range(2**n)]
+
+
 # Accepted chains of all pairings: an input, a choice of masks for it, and the tables. At widths of 1 it is every choice, and where all
 # widths differ it is some. b has no bits under method 2, and one under method 3.
 def accepted_chains():
@@ -51,12 +57,12 @@ def accepted_chains():
             seconds = list(chain.second_choices(methods[1], 1, 1))
             for first, second in itertools.product(model.choices(methods[0], 1, 1, secret), seconds):
                 yield secret, first, second, ONE_BIT
-        for n, m, last in [(3, 2, 1)] * 100 + [(8, 5, 3)]:
+        for n, m, last in [(3, 2, 1)] * 100 + [(8, 5, 3), (3, 4, 6), (1, 8, 8)]:
             secret, r1, r2 = below(n), below(n), below(n)
             first = Case(methods[0], n, m, secret ^ r1 ^ r2, r1, r2, below(m), below(m), below(n), below(methods[0] - 2))
             second = Second(methods[1], m, last, below(last), below(last), below(m), below(methods[1] - 2))
-            tables = [place * 3 % 2**m for place in range(2**n)], [place * 5 % 2**last for place in range(2**m)]
-            yield secret, first, second, (TABLE_32, TABLE_21) if n == 3 else tables
+            tables = mixed_table(n, m, 3), mixed_table(m, last, 5)
+            yield secret, first, second, (TABLE_32, TABLE_21) if m == 2 else tables
 
 
 # What every accepted chain comes to: the share, both counts, and what two logged calls would leave, the second's on the first's output
@@ -87,10 +93,12 @@ def faults_of(call, known):
 
 FINE = {**places(0, fine_call(3, 2, TABLE_32)), **places(1, fine_call(2, 1, TABLE_21))}
 FIRST, SECOND = faults_of(0, faults(3, 2, TABLE_32)), faults_of(1, faults(2, 1, TABLE_21))
-# Fine tables for which the first's m is one less or one more than the second's n. No other fault makes the two equal.
+# Fine tables for which the first's m is one less or one more than the second's n, or as large as can be. No other fault makes the two
+# equal.
 UNEQUAL = [
     (18, places(0, dict(m=1, table=[0, 1, 1, 0, 1, 0, 0, 1]))),
     (18, places(0, dict(m=3, table=TABLES[3, 3]))),
+    (18, places(0, dict(m=8, table=TABLE_32))),
     (18, places(1, dict(n=1, table=[1, 0]))),
 ]
 FAULTS = [
@@ -147,30 +155,10 @@ def neighbours():
 # At every triple of widths: accepted where the first's m is the second's n, and 18 where it is another.
 def widths():
     for n, m, second_n in itertools.product(range(1, 9), repeat=3):
-        if m <= n:
-            methods = PAIRINGS[(n + m + second_n) % 4]
-            first, second = Case(methods[0], n, m, 0, 0, 0, 0, 0, 0, 0), Second(methods[1], second_n, 1, 0, 0, 0, 0)
-            tables = [place % 2**m for place in range(2**n)], [place % 2 for place in range(2**second_n)]
-            yield f"widths {n}, {m} and {second_n}", called(first, second, tables)[:2], (0 if m == second_n else 18, 0)
-
-
-# A column of shown values as one number for each value: a bit for each choice, 1 where the value is shown.
-def planes(column):
-    return {value: int(column.translate(bytes(48 + (byte == value) for byte in range(256))), 2) for value in set(column)}
-
-
-# How often two positions show each pair of values.
-def times(first, second):
-    both = ((u, v, (plane & other).bit_count()) for u, plane in first.items() for v, other in second.items())
-    return {(u, v): count for u, v, count in both if count}
-
-
-# The pairs of positions in either log, or one in each, whose counts differ for two inputs.
-def differing(shown, other):
-    shown, other = list(map(planes, shown)), list(map(planes, other))
-    for i, j in itertools.combinations_with_replacement(range(len(shown)), 2):
-        if times(shown[i], shown[j]) != times(other[i], other[j]):
-            yield i, j
+        methods, last = PAIRINGS[(n + m + second_n) % 4], (n + m) % 8 + 1
+        first, second = Case(methods[0], n, m, 0, 0, 0, 0, 0, 0, 0), Second(methods[1], second_n, last, 0, 0, 0, 0)
+        tables = [place % 2**m for place in range(2**n)], [place % 2**last for place in range(2**second_n)]
+        yield f"widths {n}, {m} and {second_n}", called(first, second, tables)[:2], (0 if m == second_n else 18, 0)
 
 
 # All masks stand in a log, so each choice shows something else, and no choice is left out.
@@ -186,9 +174,14 @@ def choices():
             yield f"inputs of methods {methods} at {secret}", {x0 ^ r1 ^ r2 for x0, r1, r2 in zip(*shown[:3])}, {secret}
 
 
-# Widths, tables, inputs and pairings that are counted. The table of three bits is their majority, which is not linear.
+# Widths, tables, inputs and pairings that are counted. The table of three bits is their majority, which is not linear. Fit tables that are
+# not balanced stand in the first place, in the second, and in both.
 COUNTED = [
     ((1, 1, 1), ONE_BIT, (0, 1), PAIRINGS),
+    ((1, 2, 1), [[0, 3], TABLE_21], (0, 1), PAIRINGS),
+    ((1, 2, 2), [[1, 2], [2, 2, 1, 1]], (0, 1), PAIRINGS),
+    ((1, 1, 2), [[1, 0], [3, 1]], (0, 1), PAIRINGS),
+    ((2, 1, 1), [[1, 1, 1, 1], [0, 0]], (0, 3), PAIRINGS[:1]),
     ((2, 1, 1), [TABLE_21, [0, 1]], (0, 1, 2, 3), PAIRINGS),
     ((2, 2, 1), [TABLE_A, TABLE_21], (0, 3), PAIRINGS),
     ((3, 1, 1), [[0, 0, 0, 1, 0, 1, 1, 1], [1, 0]], (0, 7), PAIRINGS[:1]),
@@ -216,13 +209,13 @@ def masks_twice(secret):
 
 
 # Worked by hand. Position 12 of the second log is T[x0] + s1: with the first's output masks and these tables it is x + s2. A table that is
-# not balanced shows in a chain what it shows alone, as often again as the other masks have choices.
+# not fit shows in a chain what it shows alone, as often again as the other masks have choices.
 def leaks():
     for secret in (0, 1):
         yield f"masks twice at {secret}", pair_counts(masks_twice(secret), 4, 22 + 12), {(0, secret): 32, (1, 1 - secret): 32}
     yield "masks twice", (4, 22 + 12) in differing(masks_twice(0), masks_twice(1)), True
-    unbalanced = [0, 0, 0, 1]
-    for widths, tables, at, times in (((2, 1, 1), [unbalanced, [1, 0]], 0, 8), ((2, 2, 1), [[0, 1, 2, 3], unbalanced], 34, 64)):
+    unfit = [0, 0, 0, 1]
+    for widths, tables, at, times in (((2, 1, 1), [unfit, [1, 0]], 0, 8), ((2, 2, 1), [[0, 1, 2, 3], unfit], 34, 64)):
         shown = {secret: chain.shown_values((2, 2), widths, tables, secret) for secret in (0, 3)}
         for secret, figure in ((0, 96), (3, 32)):
             yield f"{tables} at {secret}", pair_counts(shown[secret], at + 13, at + 33)[0, 0], figure * times

@@ -8,20 +8,28 @@ from counts import ProbePair
 from document import TABLE_A
 
 TOP = 2**32 - 1
-# Balanced tables of every pair of widths.
+# Fit tables of every pair of widths, balanced where m is at most n.
 TABLES = {
     (1, 1): [1, 0],
+    (1, 2): [0, 3],
+    (1, 3): [6, 3],
     (2, 1): [0, 1, 1, 0],
     (2, 2): TABLE_A,
+    (2, 3): [7, 1, 2, 4],
     (3, 1): [0, 1, 1, 0, 1, 0, 0, 1],
     (3, 2): [3, 0, 1, 1, 2, 0, 3, 2],
     (3, 3): [6, 1, 0, 7, 3, 5, 2, 4],
 }
 
 
+# How many counts a sheet has.
+def size(n, m):
+    return 4**n if n > m else 4**m
+
+
 # The sheet of an accepted pair, with buffers that just suffice.
 def sheet_of(pair, table=None):
-    lent = [9] * 2**pair.n, [9] * log_length(pair.method, pair.n), [9] * 4**pair.n
+    lent = [9] * 2**pair.n, [9] * log_length(pair.method, pair.n), [9] * size(pair.n, pair.m)
     refusal, _, _, sheet = counts.count_sheet(pair, table or TABLES[pair.n, pair.m], *lent)
     return sheet if refusal == 0 else refusal
 
@@ -41,6 +49,11 @@ def figures():
     yield "a = 7 and x0", sheet_of(ProbePair(2, 3, 1, 6, 50, 0)), [0] * 56 + [256] * 8
     yield "a = 7 and b", sheet_of(ProbePair(3, 3, 2, 6, 71, 80)), [0] * 56 + [2**13] * 2 + [0] * 6
     yield "a = 7 twice", sheet_of(ProbePair(3, 3, 3, 0, 71, 71)), [0] * 63 + [2**16]
+    for secret in (0, 1):
+        yield f"0, 3 and its answer at {secret}", sheet_of(ProbePair(2, 1, 2, secret, 11, 21)), [16] * 4 + [0] * 8 + [16] * 4
+    yield "r1 and s1, m above n", sheet_of(ProbePair(2, 1, 3, 1, 1, 3)), [32] * 16 + [0] * 48
+    yield "s1 and r1, m above n", sheet_of(ProbePair(2, 1, 3, 1, 3, 1)), [32, 32, 0, 0, 0, 0, 0, 0] * 8
+    yield "a constant table's entry twice", sheet_of(ProbePair(3, 2, 3, 1, 14, 14), [7] * 4), [0] * 63 + [2**13]
 
 
 # Pairs of positions that the laws are tried at: first and last ones, one twice, and some between.
@@ -54,7 +67,8 @@ def sums():
         for method in (2, 3):
             for first, second in positions(method, n):
                 sheet = sheet_of(ProbePair(method, n, m, 0, first, second))
-                yield f"sum of {method} {n} {m} {first} {second}", (len(sheet), sum(sheet)), (4**n, (method - 1) * 2 ** (3 * n + 2 * m))
+                wanted = size(n, m), (method - 1) * 2 ** (3 * n + 2 * m)
+                yield f"sum of {method} {n} {m} {first} {second}", (len(sheet), sum(sheet)), wanted
 
 
 # Every pair of positions at n = 1, and some at the other widths.
@@ -82,7 +96,7 @@ def single_counts():
 
 # A count's arguments by their names: the six numbers, the table, scratch and sheet, and the length of the log. All lent is dirty.
 def arguments(method, n, m, table, **others):
-    scratch, sheet = [7] * (2**n + 1), list(range(1, 4**n + 2))
+    scratch, sheet = [7] * (2**n + 1), list(range(1, size(n, m) + 2))
     numbers = dict(method=method, n=n, m=m, secret=2**n - 1, first=0, second=log_length(method, n) - 1)
     return {**numbers, "table": table, "scratch": scratch, "log": log_length(method, n), "sheet": sheet, **others}
 
@@ -98,15 +112,15 @@ def faults(method, n, m, table):
     return [
         *((2, "method", value) for value in (0, 1, 4, 258, 2**16 + 3, TOP)),
         *((3, "n", value) for value in (0, 9, 258, 2**16 + 2, TOP)),
-        *((4, "m", value) for value in (0, n + 1, 9, 257, 2**16 + 1, TOP)),
+        *((4, "m", value) for value in (0, 9, 257, 2**16 + 1, TOP)),
         *((5, "table", value) for value in ([], table[:-1], table + [0])),
         *((6, "table", value) for value in ([2**m, *table[1:]], [*table[:-1], 255])),
-        *((7, "table", value) for value in ([1 - table[0], *table[1:]], [0] * 2**n)),
+        *((7, "table", value) for value in ([table[0] ^ 1, *table[1:]], [*table[:-1], table[-1] ^ 1])),
         *((10, "secret", value) for value in (2**n, 256, 2**16, TOP)),
         *((13, "scratch", value) for value in ([], [0] * (2**n - 1), [7] * (2**n - 1))),
         *((14, "log", value) for value in (0, length - 1)),
         *((16, name, value) for name in ("first", "second") for value in (length, 256, 2**16, TOP)),
-        *((17, "sheet", value) for value in ([], [7] * (4**n - 1))),
+        *((17, "sheet", value) for value in ([], [7] * (size(n, m) - 1))),
     ]
 
 
@@ -115,11 +129,11 @@ def refused(call, refusal):
     yield f"{call} refused", called(call), wanted
 
 
-# Each fault, and any two in different places. Where n is 4 the count is refused with 15: behind 14, before 16 and 17.
+# Each fault, and any two in different places. Where n or m is 4 the count is refused with 15: behind 14, before 16 and 17.
 def refusals():
     for method in (2, 3):
-        for n, m, table in ((2, 1, [0, 1, 1, 0]), (4, 1, [0, 1] * 8)):
-            wide = 15 if n > 3 else TOP
+        for n, m, table in ((2, 1, [0, 1, 1, 0]), (2, 3, [0, 3, 5, 6]), (4, 1, [0, 1] * 8), (2, 4, [0, 3, 5, 6])):
+            wide = 15 if n > 3 or m > 3 else TOP
             known = faults(method, n, m, table)
             for at, (refusal, place, value) in enumerate(known):
                 call = {**arguments(method, n, m, table), place: value}
@@ -127,40 +141,44 @@ def refusals():
                 for _, second, value2 in known[at:]:
                     if second != place:
                         yield from refused({**call, second: value2}, min(refusal, wide))
-    for n in range(4, 9):
-        for m in (1, 3, 4, n):
-            yield from refused(arguments(3, n, m, list(range(2**m)) * 2 ** (n - m)), 15)
+    for n in range(1, 9):
+        for m in range(1 if n > 3 else 4, 9):
+            yield from refused(arguments(3, n, m, [place % 2**m for place in range(2**n)]), 15)
 
 
 # What stands just inside is accepted, whatever the lent buffers hold, and what is behind the parts that are written stays.
 def accepted():
     for method in (2, 3):
         for (n, m), table in TABLES.items():
-            length = log_length(method, n)
+            length, counted = log_length(method, n), size(n, m)
             for changed in (
                 {},
                 {"first": length - 1, "second": 0, "secret": 0},
-                {"scratch": [255] * 2**n, "sheet": [TOP] * 4**n},
-                {"scratch": [0] * 2**n + [1, 2, 3], "sheet": [0] * 4**n + [TOP, 1, 2]},
+                {"scratch": [255] * 2**n, "sheet": [TOP] * counted},
+                {"scratch": [0] * 2**n + [1, 2, 3], "sheet": [0] * counted + [TOP, 1, 2]},
                 {"log": length + 3},
             ):
                 call = arguments(method, n, m, table, **changed)
                 refusal, scratch, log, sheet = called(call)
-                tails = call["scratch"][2**n :], list(range(length + 1, call["log"] + 1)), call["sheet"][4**n :]
+                tails = call["scratch"][2**n :], list(range(length + 1, call["log"] + 1)), call["sheet"][counted:]
                 name = f"{method} {n} {m} {changed}"
-                yield f"{name} accepted", (refusal, sum(sheet[: 4**n])), (0, (method - 1) * 2 ** (3 * n + 2 * m))
+                yield f"{name} accepted", (refusal, sum(sheet[:counted])), (0, (method - 1) * 2 ** (3 * n + 2 * m))
                 yield f"{name}, scratch", scratch, [0] * 2**n + tails[0]
                 yield f"{name}, log", log, [0] * length + tails[1]
-                yield f"{name}, sheet behind the counts", sheet[4**n :], tails[2]
+                yield f"{name}, sheet behind the counts", sheet[counted:], tails[2]
 
 
 # The print's form: a line of 2^k counts for each u, a refusal, or 1.
 def prints():
     yield "P12 as input", SAMPLE, b"   2   1   1   0   0  21\n   1\n   0\n"
     yield "P12 printed", counts.counts(SAMPLE), b"       8       8\n       8       8\n"
-    for pair, table in ((ProbePair(2, 2, 1, 3, 1, 3), [0, 1, 1, 0]), (ProbePair(3, 3, 3, 0, 71, 71), TABLES[3, 3])):
-        sheet, size = sheet_of(pair, table), 2**pair.n
-        lines = [b"".join(b"%8d" % count for count in sheet[at : at + size]) for at in range(0, size * size, size)]
+    rows = [b"      16" * 4] * 2 + [b"       0" * 4] * 2
+    yield "0, 3 printed", counts.counts(probe_sheet(ProbePair(2, 1, 2, 1, 1, 3), [0, 3])).split(b"\n"), [*rows, b""]
+    known = (2, 2, 1, 3, 1, 3), (2, 1, 3, 1, 13, 21), (3, 2, 3, 2, 16, 45), (3, 3, 3, 0, 71, 71)
+    for pair in (ProbePair(*numbers) for numbers in known):
+        table, values = TABLES[pair.n, pair.m], 2 ** max(pair.n, pair.m)
+        sheet = sheet_of(pair, table)
+        lines = [b"".join(b"%8d" % count for count in sheet[at : at + values]) for at in range(0, values * values, values)]
         yield f"{pair} printed", counts.counts(probe_sheet(pair, table)).split(b"\n"), [*lines, b""]
     yield "a wide count", counts.counts(probe_sheet(pair, table))[-9:], b"   65536\n"
     yield "nothing", counts.counts(b""), b"   1\n"
@@ -173,6 +191,7 @@ def prints():
     for method in (2, 3):
         for n in range(4, 9):
             yield f"method {method} at n = {n}", counts.counts(probe_sheet(ProbePair(method, n, n, 0, 0, 0), range(2**n))), b"  15\n"
+            yield f"method {method} at m = {n}", counts.counts(probe_sheet(ProbePair(method, 1, n, 0, 0, 0), [0, 3])), b"  15\n"
 
 
 # The quick ones come first.

@@ -95,8 +95,10 @@ FAULTS = [
 # Each fault with what is just inside, and any two faults in different places: the first in the order is returned, with zeros.
 def layer_refusals():
     yield "layer, accepted", model.linear_layer(*NARROW), (0, 0, 3, 3)
-    yield "m = n", model.linear_layer(3, 3, [7, 7, 7], 7, 7, 7, 7)[0], 0
-    yield "m = n + 1", model.linear_layer(3, 4, [7, 7, 7, 7], 7, 7, 7, 7), (4, 0, 0, 0)
+    for n in range(1, 9):
+        yield f"n = m = {n}", model.linear_layer(n, n, [1] * n, 1, 1, 1, 1)[0], 0
+        for m in range(n + 1, 10):
+            yield f"n = {n}, m = {m}", model.linear_layer(n, m, [1] * m, 1, 1, 1, 1), (4, 0, 0, 0)
     for refusal, place, value in FAULTS:
         faulty = put(NARROW, place, value)
         yield f"layer, {value} in place {place}", model.linear_layer(*faulty), (refusal, 0, 0, 0)

@@ -8,11 +8,11 @@ import struct
 from collections import namedtuple
 
 import counts
+import tables
 from count_sheets import P12_PAIR
 from counts import ProbePair
 from logged_cases import DIRTY_BYTE, FILLED_ENTRY, LONGEST_LOG, LONGEST_SCRATCH, TOP, checksum, with_entry
 from model import log_length
-from sheets import balanced_table
 
 # What the program fills the sheet with, and the most of it that it can lend.
 FILLED_COUNT, LONGEST_SHEET = 4042322160, 100
@@ -25,14 +25,15 @@ Call = namedtuple("Call", "pair table scratch log sheet")
 chance = random.Random()
 
 
-# A call with buffers that just suffice. Where n is above 3 no sheet is looked at, and a short one is lent.
+# A call with buffers that just suffice. Where n or m is above 3 no sheet is looked at, and a short one is lent.
 def with_buffers(pair, table):
-    return Call(pair, table, 2**pair.n, log_length(pair.method, pair.n), 4**pair.n if pair.n <= 3 else 5)
+    width = max(pair.n, pair.m)
+    return Call(pair, table, 2**pair.n, log_length(pair.method, pair.n), 4**width if width <= 3 else 5)
 
 
 def accepted(method, n, m):
     positions = (chance.randrange(log_length(method, n)) for _ in range(2))
-    return with_buffers(ProbePair(method, n, m, chance.randrange(2**n), *positions), balanced_table(chance, n, m))
+    return with_buffers(ProbePair(method, n, m, chance.randrange(2**n), *positions), tables.any_fit(chance, n, m))
 
 
 def with_numbers(call, **numbers):
@@ -45,22 +46,23 @@ def roomier(call):
     return call._replace(scratch=scratch, log=log, sheet=sheet)
 
 
-# P12 of the bench sheet, and the pair that tells a secret of the table 0, 0, 0, 1, which is refused.
+# P12 of the bench sheet, the valve maker's table, and the pair that tells a secret of the tables 0, 0, 0, 1 and 0, 1, 2, 4, which are
+# refused.
 def bench_sheet():
     for secret in (0, 1):
         p12 = with_buffers(P12_PAIR._replace(secret=secret), [1, 0])
-        yield from (p12, roomier(p12))
+        yield from (p12, roomier(p12), with_buffers(ProbePair(2, 1, 2, secret, 13, 21), [0, 3]))
     for secret in (0, 3):
-        for table in ([0, 1, 1, 0], [0, 0, 0, 1]):
-            yield with_buffers(ProbePair(2, 2, 1, secret, 13, 33), table)
+        for m, table in ((1, [0, 1, 1, 0]), (1, [0, 0, 0, 1]), (3, [2, 0, 3, 1]), (3, [0, 1, 2, 4])):
+            yield with_buffers(ProbePair(2, 2, m, secret, 13, 33), table)
 
 
 # Both methods at every pair of widths: first and last positions, one twice, and others; two secrets of the same table. Position 8 always
-# shows 0, so that one count is all choices, 65536 at most. At n = m = 3, where a count takes longest, there are fewer pairs.
+# shows 0, so that one count is all choices, 65536 at most. At m = 3, where a count takes longest, there are fewer pairs.
 def every_width():
     for method in (2, 3):
         for n in range(1, 4):
-            for m in range(1, n + 1):
+            for m in range(1, 4):
                 call, last = accepted(method, n, m), log_length(method, n) - 1
                 other = call.pair.secret ^ chance.randrange(1, 2**n)
                 between = [tuple(chance.randrange(1, last) for _ in range(2)) for _ in range(3)]
@@ -72,7 +74,7 @@ def every_width():
 
 # Every position with another one, at n = 1 and n = 2, and of the first and the last turn at n = 3.
 def every_position():
-    for method, n, m in ((2, 1, 1), (3, 1, 1), (2, 2, 1), (3, 2, 2), (2, 3, 2), (3, 3, 1)):
+    for method, n, m in ((2, 1, 1), (3, 1, 1), (3, 1, 2), (2, 2, 1), (3, 2, 2), (2, 3, 2), (3, 3, 1)):
         call, length = accepted(method, n, m), log_length(method, n)
         for first in range(length) if n < 3 else (*range(17), *range(length - 11, length)):
             yield with_numbers(call, first=first, second=chance.randrange(length))
@@ -80,7 +82,7 @@ def every_position():
 
 # All secrets of a table.
 def every_secret():
-    for method, n, m in ((2, 2, 2), (3, 2, 1), (2, 3, 1)):
+    for method, n, m in ((3, 1, 3), (2, 2, 2), (3, 2, 1), (2, 2, 3), (2, 3, 1)):
         call = accepted(method, n, m)
         yield from (with_numbers(call, secret=secret) for secret in range(2**n))
 
@@ -93,7 +95,7 @@ def numbers():
             bounds = {
                 "method": (0, 1, 4),
                 "n": (0, n + 1, 9, 33),
-                "m": (0, m, n + 1, 9, 33),
+                "m": (0, m, n + 1, 4, 8, 9, 33),
                 "secret": (0, 2**n - 1, 2**n),
                 "first": (0, length - 1, length, length + 1),
                 "second": (0, length - 1, length, length + 1),
@@ -103,47 +105,49 @@ def numbers():
                 yield from (with_numbers(call, **{name: value}) for value in (*values, *wide))
 
 
-# Lengths one too short or too long, entries that are too large, and tables that are not balanced.
-def tables():
+# Lengths one too short or too long, entries that are too large, and tables that are not fit.
+def faulty_tables():
     for n in range(1, 9):
         for m in sorted({1, n}):
             call = accepted(2 + n % 2, n, m)._replace(sheet=5)
             yield from (call._replace(table=table) for table in ([], call.table[:-1], call.table + [0]))
             place = chance.randrange(2**n)
             yield from (with_entry(call, place, entry) for entry in (2**m - 1 - call.table[place], min(2**m, 255), 255))
+        call = accepted(2 + n % 2, n, 8)
+        yield from (call._replace(table=kind(chance, n, 8)) for kind in (tables.full, *(tables.NOT_CLOSED if n > 1 else ())))
 
 
 # Each buffer exactly long enough, one too short, empty, and longer; at n = 3 as long as the program can lend.
 def buffers():
     for method in (2, 3):
-        for n in range(1, 4):
-            call = accepted(method, n, min(n, 2))
+        for n, m in ((1, 2), (2, 3), (3, 2)):
+            call = accepted(method, n, m)
             for name in ("scratch", "log", "sheet"):
                 needed = getattr(call, name)
                 yield from (call._replace(**{name: length}) for length in (0, needed - 1, needed, needed + 1))
-            yield from (call._replace(scratch=0, log=0, sheet=0), call._replace(sheet=2**n))
+            yield from (call._replace(scratch=0, log=0, sheet=0), call._replace(sheet=2**n), call._replace(sheet=2 ** (n + m)))
         yield call._replace(scratch=LONGEST_SCRATCH, log=LONGEST_LOG, sheet=LONGEST_SHEET)
 
 
-# n above 3, with buffers that suffice but for the sheet.
+# n or m above 3, with buffers that suffice but for the sheet.
 def too_wide():
-    for n in range(4, 9):
-        for m in range(1, n + 1):
+    for n in range(1, 9):
+        for m in range(1 if n > 3 else 4, 9):
             call = accepted(2 + (n + m) % 2, n, m)
             yield from (call, call._replace(sheet=0))
-            yield from (call._replace(scratch=call.scratch - 1), call._replace(log=call.log - 1))
+        yield from (call._replace(scratch=call.scratch - 1), call._replace(log=call.log - 1))
         yield from (with_numbers(call, secret=2**n), with_numbers(call, second=call.log), call._replace(table=call.table[1:]))
 
 
-# A fault alone, which is one that is made twice, two faults together, and one beside empty buffers, also where n is above 3: the number
-# that is checked first is returned.
+# A fault alone, which is one that is made twice, two faults together, and one beside empty buffers, also where n or m is above 3: the
+# number that is checked first is returned.
 def two_faults():
     faults = (
         lambda call: with_numbers(call, method=chance.choice((0, 1, 4))),
         lambda call: with_numbers(call, n=chance.choice((0, 9))),
-        lambda call: with_numbers(call, m=chance.choice((0, 5))),
+        lambda call: with_numbers(call, m=chance.choice((0, 9))),
         lambda call: call._replace(table=call.table + [0]),
-        lambda call: with_entry(call, 0, 4),
+        lambda call: with_entry(call, 0, 16),
         lambda call: with_entry(call, 1, (call.table[1] + 1) % 4),
         lambda call: with_numbers(call, secret=chance.choice((16, 256))),
         lambda call: call._replace(scratch=call.scratch - 1),
@@ -151,11 +155,11 @@ def two_faults():
         lambda call: with_numbers(call, **{chance.choice(("first", "second")): 154}),
         lambda call: call._replace(sheet=call.sheet - 1),
     )
-    for n in (2, 4):
+    for widths in [(2, 2)], [(4, 2), (2, 4)]:
+        fine = lambda: accepted(chance.choice((2, 3)), *chance.choice(widths))
         for first, fault in enumerate(faults):
-            for other in faults[first:]:
-                yield other(fault(accepted(chance.choice((2, 3)), n, 2)))
-            yield fault(accepted(chance.choice((2, 3)), n, 2))._replace(scratch=0, log=0, sheet=0)
+            yield from (other(fault(fine())) for other in faults[first:])
+            yield fault(fine())._replace(scratch=0, log=0, sheet=0)
 
 
 def record(call):
@@ -170,7 +174,7 @@ def answer(call):
     return [refusal, checksum(scratch), checksum(log), *sheet]
 
 
-KINDS = (bench_sheet, every_width, every_position, every_secret, numbers, tables, buffers, too_wide, two_faults)
+KINDS = (bench_sheet, every_width, every_position, every_secret, numbers, faulty_tables, buffers, too_wide, two_faults)
 
 
 # The same cases in every run.

@@ -1,7 +1,13 @@
 # The edits of tests/model/counts.py that tests/model/mutants.py tries: for each function a piece of its text, and what takes its place.
-# None exchanges the secret: of a balanced table every secret has the same sheet.
+# None exchanges the secret: of a fit table every secret has the same sheet.
 COUNTS = {
-    "value_width": [("max", "min"), ("pair.n, pair.m", "pair.m, pair.m"), ("max(pair.n, pair.m)", "3")],
+    "value_width": [
+        ("max", "min"),
+        ("max(pair.n, pair.m)", "pair.n"),
+        ("max(pair.n, pair.m)", "pair.m"),
+        ("max(pair.n, pair.m)", "pair.n + pair.m"),
+        ("max(pair.n, pair.m)", "3"),
+    ],
     "count_refusal": [
         ("model.table_refusal(pair.method, pair.n, pair.m, table)", "0"),
         ("        return refusal\n", "        return refusal if refusal < 7 else 0\n"),
@@ -31,6 +37,9 @@ COUNTS = {
         ("pair.n > 3 or pair.m > 3", "pair.n > 2 or pair.m > 2"),
         ("pair.n > 3 or pair.m > 3", "pair.n > 4 or pair.m > 4"),
         ("pair.n > 3 or pair.m > 3", "pair.m > 3"),
+        ("pair.n > 3 or pair.m > 3", "pair.n > 3"),
+        ("pair.n > 3 or pair.m > 3", "pair.n > 3 and pair.m > 3"),
+        ("pair.n > 3 or pair.m > 3", "pair.n + pair.m > 6"),
         ("return 15\n", "return 16 if max(pair.first, pair.second) >= length else 15\n"),
         ("return 15\n", "return 17 if len(sheet) < 4**pair.n else 15\n"),
         ("pair.first >= length or", "pair.first > length or"),
@@ -45,6 +54,7 @@ COUNTS = {
         ("len(sheet) <", "len(sheet) <="),
         ("2 ** (2 * value_width(pair))", "2 ** value_width(pair)"),
         ("2 ** (2 * value_width(pair))", "2 ** (pair.n + pair.m)"),
+        ("2 ** (2 * value_width(pair))", "4**pair.n"),
         ("2 ** (2 * value_width(pair))", "64"),
         ("return 17\n", "return 14\n"),
     ],
@@ -59,6 +69,7 @@ COUNTS = {
         ("times[u, v]", "times[u, v] % 2**16"),
         ("times[u, v]", "times[u, v] % 256"),
         ("range(2 ** value_width(pair))", "range(2**pair.m)"),
+        ("range(2 ** value_width(pair))", "range(2**pair.n)"),
     ],
     "in_front": [
         ("list(written) + list(buffer[len(written) :])", "list(written)"),
@@ -101,6 +112,7 @@ COUNTS = {
         ("columns=8", "columns=4"),
         (", columns=8", ""),
         ("2 ** value_width(pair)", "2**pair.m"),
+        ("2 ** value_width(pair)", "2**pair.n"),
         ("sheet[u * size : (u + 1) * size]", "sheet[u::size]"),
         ("range(size)", "range(size - 1)"),
         ("range(size)", "reversed(range(size))"),

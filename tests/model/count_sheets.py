@@ -1,10 +1,11 @@
 # Inputs for the test of the count sheet's print, legal and damaged. What each must print is the model's to say.
 import random
 
+import tables
 from counts import ProbePair
 from document import TABLE_A
 from model import log_length
-from sheets import balanced_table, damaged, mutated_text, sheet as probe_sheet
+from sheets import damaged, mutated_text, sheet as probe_sheet
 
 P12_PAIR = ProbePair(method=2, n=1, m=1, secret=0, first=0, second=21)
 SAMPLE = probe_sheet(P12_PAIR, [1, 0])
@@ -14,7 +15,7 @@ PAIR = ProbePair(method=3, n=2, m=2, secret=3, first=16, second=45)
 # A pair of positions of an accepted count, and its table.
 def accepted_sheet(chance, method, n, m):
     first, second = (chance.randrange(log_length(method, n)) for _ in range(2))
-    return probe_sheet(ProbePair(method, n, m, chance.randrange(2**n), first, second), balanced_table(chance, n, m))
+    return probe_sheet(ProbePair(method, n, m, chance.randrange(2**n), first, second), tables.any_fit(chance, n, m))
 
 
 # Inputs whose numbers meet each refusal, with neighbours that do not.
@@ -22,7 +23,7 @@ def refused():
     changes = {
         "method": (0, 1, 2, 4, 5, 255),
         "n": (0, 1, 3, 8, 9, 255),
-        "m": (0, 1, 3, 8, 255),
+        "m": (0, 1, 3, 4, 8, 9, 255),
         "secret": (0, 4, 255),
         "first": (0, 45, 46, 255),
         "second": (0, 45, 46, 255),
@@ -34,15 +35,18 @@ def refused():
     for entry in (3, 4, 255):
         yield probe_sheet(PAIR, [entry, 0, 2, 1])
     yield probe_sheet(PAIR._replace(m=1), [0, 0, 0, 1])
+    yield from (probe_sheet(PAIR._replace(m=3), table) for table in ([0, 1, 2, 4], [1, 2, 4, 7], [6, 6, 6, 6]))
+    yield from (probe_sheet(P12_PAIR._replace(m=m), [0, 3]) for m in (1, 2, 3, 4))
     yield probe_sheet(PAIR._replace(method=4, n=9), TABLE_A)
     yield probe_sheet(PAIR._replace(secret=4, first=46), TABLE_A)
 
 
-# n above 3: before a position that is too large, behind a secret that is.
+# n or m above 3: before a position that is too large, behind a secret that is.
 def too_wide(chance):
-    for n in range(4, 9):
-        for method, m, secret, first in ((2, 1, 0, 0), (3, n, 2**n - 1, 255), (2, 3, 2**n % 256, 9), (3, 4, 2**n - 1, 9)):
-            yield probe_sheet(ProbePair(method, n, m, secret, first, 9), balanced_table(chance, n, m))
+    for n in range(1, 9):
+        least = 1 if n > 3 else 4
+        for method, m, secret, first in ((2, least, 0, 0), (3, 8, 2**n - 1, 255), (2, least + 2, 2**n % 256, 9), (3, 4, 2**n - 1, 9)):
+            yield probe_sheet(ProbePair(method, n, m, secret, first, 9), tables.any_fit(chance, n, m))
 
 
 # The sheets of the gate's test program and of the linked program's test.
@@ -51,17 +55,17 @@ def all_sheets():
     yield from (SAMPLE, probe_sheet(P12_PAIR._replace(secret=1), [1, 0]), probe_sheet(PAIR, TABLE_A), b"", probe_sheet(PAIR, []))
     for method in (2, 3):
         for n in range(1, 4):
-            for m in range(1, n + 1):
+            for m in range(1, 4):
                 yield from (accepted_sheet(chance, method, n, m) for _ in range(2))
-    yield probe_sheet(ProbePair(3, 3, 3, 1, 71, 71), balanced_table(chance, 3, 3))
+    yield probe_sheet(ProbePair(3, 3, 3, 1, 71, 71), tables.full(chance, 3, 3))
     yield from refused()
     yield from too_wide(chance)
     yield from damaged(SAMPLE)
     yield from damaged(probe_sheet(PAIR, TABLE_A))
-    full = probe_sheet(PAIR._replace(n=8), balanced_table(chance, 8, 2))
+    full = probe_sheet(PAIR._replace(n=8), tables.full(chance, 8, 2))
     yield from (full, full + b"   0\n", full[:-1], full + full)
 
 
 # Widths that the model counts soon.
 def mutated(chance):
-    return mutated_text(chance, accepted_sheet(chance, chance.choice((2, 3)), *chance.choice(((1, 1), (2, 1), (2, 2)))))
+    return mutated_text(chance, accepted_sheet(chance, chance.choice((2, 3)), *chance.choice(((1, 1), (1, 2), (2, 1), (2, 2)))))

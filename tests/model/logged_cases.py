@@ -9,6 +9,7 @@ import struct
 from collections import namedtuple
 
 import model
+import tables
 
 TOP = 2**32 - 1
 # What the program writes into dirty scratch, what it fills the log with, and the most that it can lend.
@@ -30,10 +31,8 @@ def below(width):
     return chance.randrange(2**width)
 
 
-def balanced_table(n, m):
-    table = list(range(2**m)) * 2 ** (n - m)
-    chance.shuffle(table)
-    return table
+def any_method():
+    return chance.choice((2, 3))
 
 
 # A call with buffers that just suffice. The scratch is clean as far as the call looks at it, and dirty behind.
@@ -41,12 +40,16 @@ def with_buffers(case, table):
     return Call(case, table, 2**case.n, model.log_length(case.method, case.n), range(2**case.n, LONGEST_SCRATCH))
 
 
-def accepted(method, n, m=None):
-    m = m or chance.randint(1, n)
+# A call on a table, with masks in their widths.
+def on_table(method, n, m, table):
     x0, r1, r2, r3 = (below(n) for _ in INPUTS)
     b = below(1) if method == 3 else 0
-    case = model.Case(method, n, m, x0, r1, r2, below(m), below(m), r3, b)
-    return with_buffers(case, balanced_table(n, m))
+    return with_buffers(model.Case(method, n, m, x0, r1, r2, below(m), below(m), r3, b), table)
+
+
+def accepted(method, n, m=None):
+    m = m or chance.randint(1, 8)
+    return on_table(method, n, m, tables.any_fit(chance, n, m))
 
 
 def with_numbers(call, **numbers):
@@ -77,6 +80,8 @@ def dirty(call):
 P1 = with_buffers(model.Case(2, 1, 1, 0, 1, 0, 0, 1, 1, 0), [1, 0])
 P2 = with_buffers(model.Case(2, 2, 2, 0, 1, 2, 3, 0, 2, 0), [2, 0, 3, 1])
 P3 = with_buffers(model.Case(3, 2, 2, 0, 1, 2, 3, 0, 2, 1), [2, 0, 3, 1])
+# The valve maker's table, which is fit without being balanced.
+VALVE = with_buffers(model.Case(2, 1, 2, 0, 1, 0, 3, 1, 1, 0), [0, 3])
 
 
 def bench_sheet():
@@ -94,14 +99,15 @@ def bench_sheet():
     yield from (dirty(P2._replace(scratch=3)), dirty_at(P2._replace(log=33), 0))
 
 
-# Both methods at every pair of widths, one of them with longer buffers.
+# Both methods at every pair of widths, one of them on a table of as many values as there can be, the other on any fit one and with longer
+# buffers.
 def every_width():
     for n in range(1, 9):
-        for m in range(1, n + 1):
+        for m in range(1, 9):
             methods = [2, 3]
             chance.shuffle(methods)
-            yield accepted(methods[0], n, m)
-            yield roomier(accepted(methods[1], n, m))
+            yield on_table(methods[0], n, m, tables.full(chance, n, m))
+            yield roomier(on_table(methods[1], n, m, tables.fit(chance, n, m, chance.randint(0, min(n, m)))))
 
 
 def no_methods_and_widths():
@@ -111,7 +117,7 @@ def no_methods_and_widths():
         yield dirty(with_numbers(accepted(2, 3), n=width))
         yield dirty(with_numbers(accepted(3, 3), m=width))
     for n in range(1, 9):
-        yield dirty(with_numbers(accepted(2, n), m=n + 1))
+        yield dirty(with_numbers(accepted(2, n), m=9))
 
 
 def table_lengths():
@@ -122,22 +128,48 @@ def table_lengths():
     yield call._replace(table=[])
 
 
-# 2^8 is no byte, so at width 8 no entry is too large.
+# 2^8 is no byte, so at m = 8 no entry is too large. Where all of them are, the table is still fit.
 def table_entries():
     for n in range(1, 9):
-        for m in sorted({1, n}):
+        for m in sorted({1, n, min(n + 1, 8)}):
             call = dirty(roomier(accepted(2 + n % 2, n, m)))
             place = chance.randrange(2**n)
             yield with_entry(call, place, 2**m - 1 - call.table[place])
             if m < 8:
                 yield with_entry(call, place, 2**m)
+        call = dirty(accepted(2 + n % 2, n, chance.randint(1, 7)))
+        yield call._replace(table=[entry + 2**call.case.m for entry in call.table])
+
+
+# The tables that the requirements name, and others of their widths: without a 0, constant, with an entry that is too large.
+def named_tables():
+    yield from (VALVE, roomier(VALVE), with_numbers(VALVE, method=3, b=1), with_numbers(VALVE, m=1, s1=1))
+    for m, table in ((2, [1, 2]), (1, [0, 0]), (1, [1, 1]), (8, [255, 0]), (8, [7, 7])):
+        yield on_table(any_method(), 1, m, table)
+    for m, table in ((3, [0, 1, 2, 4]), (3, [1, 2, 4, 7]), (3, [0, 7, 7, 0]), (2, [0, 1, 2, 4]), (3, [5, 5, 5, 5]), (4, [0, 1, 2, 4])):
+        yield on_table(any_method(), 2, m, table)
+
+
+# All tables of the smallest widths, and some of the next.
+def small_tables():
+    for n, m in ((1, 1), (1, 2), (2, 1)):
+        yield from (on_table(any_method(), n, m, table) for table in tables.every(n, m))
+    for m in (2, 3):
+        yield from (on_table(any_method(), 2, m, table) for table in chance.sample(list(tables.every(2, m)), 12))
+
+
+def unfit_tables():
+    for n in range(2, 9):
+        kinds = [(kind, chance.randint(3, 8)) for kind in tables.NOT_EVEN + tables.NOT_CLOSED]
+        for kind, m in kinds + [(chance.choice(tables.NOT_EVEN), m) for m in (1, 2)]:
+            yield dirty(roomier(on_table(any_method(), n, m, kind(chance, n, m))))
 
 
 def mask_bounds():
-    for n in (1, 2, 5, 8):
-        call = roomier(accepted(2 + n % 2, n))
+    for n, m in ((1, 1), (1, 2), (2, 8), (5, 3), (8, 5)):
+        call = roomier(accepted(2 + n % 2, n, m))
         for name in INPUTS + OUTPUTS:
-            width = n if name in INPUTS else call.case.m
+            width = n if name in INPUTS else m
             yield with_numbers(call, **{name: 2**width - 1})
             yield dirty(with_numbers(call, **{name: 2**width}))
         for method, b in ((2, 0), (3, 0), (3, 1)):
@@ -149,8 +181,7 @@ def mask_bounds():
 def wide_numbers():
     for name in INPUTS + OUTPUTS + ("b",):
         for number in WIDE_NUMBERS:
-            method = chance.choice((2, 3))
-            yield dirty(with_numbers(accepted(method, chance.choice((3, 8))), **{name: number}))
+            yield dirty(with_numbers(accepted(any_method(), chance.choice((3, 8))), **{name: number}))
 
 
 def buffer_lengths():
@@ -180,7 +211,7 @@ def dirty_scratch():
 TABLE_FAULTS = (
     lambda call, fine: with_numbers(call, method=chance.choice((1, 4))),
     lambda call, fine: with_numbers(call, n=chance.choice((0, 9))),
-    lambda call, fine: with_numbers(call, m=chance.choice((0, fine.case.n + 1))),
+    lambda call, fine: with_numbers(call, m=chance.choice((0, 9))),
     lambda call, fine: call._replace(table=call.table + [0]),
     lambda call, fine: with_entry(call, 0, 2**fine.case.m),
     lambda call, fine: with_entry(call, 1, (call.table[1] + 1) % 2**fine.case.m),
@@ -200,7 +231,7 @@ def two_faults():
     faults = TABLE_FAULTS + OTHER_FAULTS
     for first, fault in enumerate(faults):
         for other in faults[first:]:
-            fine = accepted(chance.choice((2, 3)), 3, 2)
+            fine = accepted(any_method(), *chance.choice(((3, 2), (2, 3))))
             yield other(fault(fine, fine), fine)
 
 
@@ -238,6 +269,9 @@ KINDS = (
     no_methods_and_widths,
     table_lengths,
     table_entries,
+    named_tables,
+    small_tables,
+    unfit_tables,
     mask_bounds,
     wide_numbers,
     buffer_lengths,

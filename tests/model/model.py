@@ -75,18 +75,27 @@ def linear_layer(input_width, output_width, rows, constant, share1, share2, shar
 # What a logged or plain call refuses.
 
 
+# Whether all values that occur do so equally often, and the exclusive or of any three of them, repeats allowed, occurs as well.
+def is_fit(table):
+    values = set(table)
+    equally_often = len({table.count(value) for value in values}) == 1
+    pairs = {u ^ v for u in values for v in values}
+    closed = all(pair ^ w in values for pair in pairs for w in values)
+    return equally_often and closed
+
+
 def table_refusal(method, n, m, table):
     if method not in (2, 3):
         return 2
     if not 1 <= n <= 8:
         return 3
-    if not 1 <= m <= n:
+    if not 1 <= m <= 8:
         return 4
     if len(table) != 2**n:
         return 5
     if not fits(m, table):
         return 6
-    if any(table.count(value) != 2 ** (n - m) for value in range(2**m)):
+    if not is_fit(table):
         return 7
     return 0
 

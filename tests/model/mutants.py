@@ -9,6 +9,7 @@ import chain_cases
 import check
 import counts
 import frame
+import logged_cases
 import model
 import sbox
 import screening
@@ -30,7 +31,10 @@ SBOX = {
 
 # A program's cases, and the functions that its answers go through: each wrong edit of these changes an answer, so no case can go unseen
 # that alone notices one.
-CASES = {"chain": (chain_cases, ("following", "chain_refusal", "chained_call"))}
+CASES = {
+    "model": (logged_cases, ("is_fit", "table_refusal")),
+    "chain": (chain_cases, ("following", "chain_refusal", "chained_call")),
+}
 
 
 # The text of each function of a module, and of a constant that has edits.

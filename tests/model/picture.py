@@ -1,5 +1,5 @@
-# The picture docs/pictures/balanced.svg, which shows by the model's counts why a table must be balanced. Run: python3 tests/model/picture.py
-# writes it; with --check it compares it instead, after showing that it notices a change of it (status 0 if it is as made, 1 otherwise).
+# The picture docs/pictures/fit.svg, which shows by the model's counts why a table must be fit. Run: python3 tests/model/picture.py writes
+# it; with --check it compares it instead, after showing that it notices a change of it (status 0 if it is as made, 1 otherwise).
 import sys
 import tempfile
 from pathlib import Path
@@ -8,11 +8,11 @@ from xml.sax.saxutils import escape
 import model
 from stored import changes
 
-PICTURE = Path(__file__).resolve().parents[2] / "docs/pictures/balanced.svg"
+PICTURE = Path(__file__).resolve().parents[2] / "docs/pictures/fit.svg"
 # The probes, under method 2 at n = 2 and m = 1: kind 14 at a = 0, and the answer.
 FIRST, SECOND = 13, 33
 SECRETS = (0, 3)
-BALANCED, REFUSED = [0, 1, 1, 0], [0, 0, 0, 1]
+FIT, REFUSED = [0, 1, 1, 0], [0, 0, 0, 1]
 
 WIDTH, HEIGHT, CELL = 720, 800, 84
 
@@ -61,7 +61,7 @@ def drawn_pair(y, heading, table):
 def caption():
     one, other = (sheet(REFUSED, secret)[0][0] for secret in SECRETS)
     return (
-        f"Each sheet counts all {sum(map(sum, sheet(BALANCED, 0)))} choices of the masks by the values at two positions.",
+        f"Each sheet counts all {sum(map(sum, sheet(FIT, 0)))} choices of the masks by the values at two positions.",
         "Above, both secrets have the same sheet: the two values tell nothing of the secret.",
         f"Below, secret {SECRETS[0]} shows 0 and 0 in {one} choices, secret {SECRETS[1]} in {other}: the values tell of the secret.",
         "So every lookup refuses the second table.",
@@ -71,13 +71,13 @@ def caption():
 def picture():
     yield f'<svg xmlns="http://www.w3.org/2000/svg" width="{WIDTH}" height="{HEIGHT}" viewBox="0 0 {WIDTH} {HEIGHT}" role="img"'
     yield '  font-family="Helvetica, Arial, sans-serif">'
-    yield "<title>Why a table must be balanced</title>"
+    yield "<title>Why a table must be fit</title>"
     yield f"<desc>{escape(' '.join(caption()))}</desc>"
     yield f'<rect width="{WIDTH}" height="{HEIGHT}" fill="white"/>'
-    yield text(WIDTH // 2, 38, "Why a table must be balanced", 26, more=' font-weight="bold"')
+    yield text(WIDTH // 2, 38, "Why a table must be fit", 26, more=' font-weight="bold"')
     yield text(WIDTH // 2, 64, f"method 2, n = 2, m = 1: positions {FIRST} and {SECOND} of the log")
-    yield from drawn_pair(112, f"balanced: table {', '.join(map(str, BALANCED))}", BALANCED)
-    yield from drawn_pair(418, f"not balanced, refused with 7: table {', '.join(map(str, REFUSED))}", REFUSED)
+    yield from drawn_pair(112, f"fit: table {', '.join(map(str, FIT))}", FIT)
+    yield from drawn_pair(418, f"not fit, refused with 7: table {', '.join(map(str, REFUSED))}", REFUSED)
     for line, words in enumerate(caption()):
         yield text(WIDTH // 2, 712 + 22 * line, words, 14)
     yield "</svg>"
@@ -108,7 +108,7 @@ def unnoticed_changes():
 
 # What it is to show: equal sheets above, and below 96 against 32 of 256 choices for the values 0 and 0.
 def shows_it():
-    above, below = ([sheet(table, secret) for secret in SECRETS] for table in (BALANCED, REFUSED))
+    above, below = ([sheet(table, secret) for secret in SECRETS] for table in (FIT, REFUSED))
     return above[0] == above[1] and [s[0][0] for s in below] == [96, 32] and all(sum(map(sum, s)) == 256 for s in above + below)
 
 
@@ -119,7 +119,7 @@ def main():
         return
     complaints = [f"a change goes unnoticed: {change}" for change in unnoticed_changes()]
     complaints += [] if shows_it() else ["other counts are shown than are to be"]
-    complaints += [] if is_made(PICTURE) else ["docs/pictures/balanced.svg is not as the model makes it"]
+    complaints += [] if is_made(PICTURE) else ["docs/pictures/fit.svg is not as the model makes it"]
     print(*complaints, f"1 picture, {len(complaints)} complaints", sep="\n")
     sys.exit(1 if complaints else 0)
 

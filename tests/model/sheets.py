@@ -2,6 +2,7 @@
 import random
 
 import model
+import tables
 
 
 def line(*numbers):
@@ -12,13 +13,6 @@ def sheet(case, table):
     return line(*case) + b"".join(line(entry) for entry in table)
 
 
-# A table with each value equally often, in random order.
-def balanced_table(chance, n, m):
-    table = [value for value in range(2**m) for _ in range(2 ** (n - m))]
-    chance.shuffle(table)
-    return table
-
-
 def accepted_case(chance, method, n, m):
     below = lambda width: chance.randrange(2**width)
     b = below(1) if method == 3 else 0
@@ -26,12 +20,13 @@ def accepted_case(chance, method, n, m):
 
 
 def accepted_sheet(chance, method, n, m):
-    return sheet(accepted_case(chance, method, n, m), balanced_table(chance, n, m))
+    return sheet(accepted_case(chance, method, n, m), tables.any_fit(chance, n, m))
 
 
 SAMPLE = sheet((2, 1, 1, 0, 1, 0, 0, 1, 1, 0), [1, 0])
 TABLE_A = [2, 0, 3, 1]
 P2 = model.Case(2, 2, 2, 0, 1, 2, 3, 0, 2, 0)
+VALVE = model.Case(3, 1, 2, 0, 1, 0, 0, 3, 1, 1)
 
 # What may stand in a field's four columns instead of a number; each makes the sheet malformed.
 BAD_FIELDS = [
@@ -73,7 +68,7 @@ def refused(chance):
         yield sheet(P2._replace(method=method), TABLE_A)
     for n in (0, 1, 2, 8, 9, 255):
         yield sheet(P2._replace(n=n), TABLE_A)
-    for m in (0, 1, 2, 3, 8, 255):
+    for m in (0, 1, 2, 3, 8, 9, 255):
         yield sheet(P2._replace(m=m), TABLE_A)
     for length in (0, 1, 3, 5, 255, 256):
         yield sheet(P2, (TABLE_A * 64)[:length])
@@ -82,6 +77,10 @@ def refused(chance):
     yield sheet(P2._replace(m=1, s1=1), [0, 0, 0, 1])
     yield sheet(P2._replace(m=1, s1=1), [0, 1, 1, 0])
     yield sheet(P2, [2, 0, 3, 3])
+    for table in ([0, 1, 2, 4], [1, 2, 4, 7], [7, 0, 0, 7], [5, 5, 5, 5], [0, 1, 2, 8]):
+        yield sheet(P2._replace(m=3, s2=7), table)
+    for m, s2 in ((2, 3), (2, 4), (1, 0), (8, 255)):
+        yield sheet(VALVE._replace(m=m, s2=s2), [0, 3])
     for name in ("x0", "r1", "r2", "r3", "s1", "s2"):
         for value in (3, 4, 255):
             yield sheet(P2._replace(**{name: value}), TABLE_A)
@@ -101,8 +100,9 @@ def all_sheets():
     yield line(*P2)
     for method in (2, 3):
         for n in range(1, 5):
-            for m in range(1, n + 1):
+            for m in range(1, 5):
                 yield accepted_sheet(chance, method, n, m)
+        yield accepted_sheet(chance, method, 3, 8)
         yield accepted_sheet(chance, method, 6, 3)
         yield accepted_sheet(chance, method, 8, 8)
     yield from refused(chance)
@@ -115,8 +115,17 @@ def all_sheets():
     yield full + full
 
 
+# Sheets of the gate's test program alone: every table of small widths, and some of the next, with r3 too large. A fit one meets 10, so that
+# little is printed.
+def small_tables():
+    chance = random.Random(6)
+    some = chance.sample(list(tables.every(2, 3)), 200)
+    for n, m, known in [*((n, m, tables.every(n, m)) for n in (1, 2) for m in (1, 2)), (2, 3, some)]:
+        yield from (sheet(accepted_case(chance, chance.choice((2, 3)), n, m)._replace(r3=4), table) for table in known)
+
+
 def mutated(chance):
-    return mutated_text(chance, accepted_sheet(chance, chance.choice((2, 3)), *chance.choice(((1, 1), (2, 1), (2, 2), (3, 2)))))
+    return mutated_text(chance, accepted_sheet(chance, chance.choice((2, 3)), *chance.choice(((1, 1), (1, 2), (2, 1), (2, 2), (3, 2)))))
 
 
 # A sheet with a few bytes changed, put in, taken out or doubled; or bytes that were never a sheet.

@@ -100,10 +100,11 @@ def no_widths():
             yield with_number(accepted(call, 8), 0, width)
 
 
-# With as many rows as the width says, as far as a record holds them, and with one.
+# Those of a table are among them: a layer's m is at most n. With as many rows as the width says, as far as a record holds them, and with
+# one.
 def no_output_widths():
     for n in range(1, 9):
-        for m in NO_WIDTHS + (n + 1,):
+        for m in (*NO_WIDTHS, *range(n + 1, 9)):
             case = with_number(accepted(LINEAR_LAYER, n, n), 1, m)
             yield with_row_count(case, min(m, 16))
             yield with_row_count(case, 1)

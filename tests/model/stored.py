@@ -43,7 +43,7 @@ def made_files():
         **program_files("test_screening", screening_cases),
         **program_files("test_frames", frame_records),
         **program_files("test_count_sheets", count_cases),
-        **print_files("test_case_sheets", list(sheets.all_sheets()), model.bench),
+        **print_files("test_case_sheets", [*sheets.all_sheets(), *sheets.small_tables()], model.bench),
         **print_files("test_count_prints", list(count_sheets.all_sheets()), counts.counts),
         "bench/stdin": document.SAMPLE_INPUT,
         "bench/stdout": model.bench(document.SAMPLE_INPUT),

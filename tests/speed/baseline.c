@@ -9,11 +9,34 @@
 #define NAME(name) baseline_##name
 #endif
 
+static int balanced(const uint16_t *counts, uint32_t n, uint32_t m) {
+    unsigned differing = 0;
+    if (m > n) return 0;
+    for (size_t v = 0; v < (size_t)1 << m; v++) differing |= counts[v] ^ (1u << (n - m));
+    return !differing;
+}
+
+static int is_period(const uint16_t *counts, size_t difference, size_t values) {
+    for (size_t v = 0; v < values; v++)
+        if (counts[v ^ difference] != counts[v]) return 0;
+    return 1;
+}
+
+// The same check as the library's: for each highest bit one difference of the first entry and another must be a period of the counts.
+static int periodic(const uint16_t *counts, size_t first, size_t values) {
+    for (size_t low = 1; low < values; low *= 2) {
+        size_t difference = low;
+        while (difference < 2 * low && !counts[first ^ difference]) difference++;
+        if (difference < 2 * low && !is_period(counts, difference, values)) return 0;
+    }
+    return 1;
+}
+
 static unsigned table_refusal(uint32_t n, uint32_t m, const uint8_t *table, size_t length) {
     uint16_t counts[256];
-    unsigned joined = 0, differing = 0;
+    unsigned joined = 0;
     if (n < 1 || n > 8) return 3;
-    if (m < 1 || m > n) return 4;
+    if (m < 1 || m > 8) return 4;
     if (length != (size_t)1 << n) return 5;
     memset(counts, 0, sizeof counts);
     for (size_t i = 0; i < length; i++) {
@@ -21,8 +44,7 @@ static unsigned table_refusal(uint32_t n, uint32_t m, const uint8_t *table, size
         joined |= table[i];
     }
     if (joined >= 1u << m) return 6;
-    for (size_t v = 0; v < (size_t)1 << m; v++) differing |= counts[v] ^ (1u << (n - m));
-    return differing ? 7 : 0;
+    return balanced(counts, n, m) || periodic(counts, table[0], (size_t)1 << m) ? 0 : 7;
 }
 
 // A comparison that is not merged with another: the greater of two shares is a number of both.

@@ -1,6 +1,7 @@
 // Runs one kind of call many times, for callgrind to count, or times all kinds beside each other.
-// speed KIND METHOD WIDTH TIMES   KIND: one of kinds
-// speed time                      a table of nanoseconds a call, at n = m = 8
+// speed KIND METHOD WIDTH BITS TIMES   KIND: one of kinds; WIDTH: n and m; BITS: the table has the values below 2^BITS, and is balanced if
+//                                      that is WIDTH
+// speed time                           a table of nanoseconds a call, at n = m = 8
 #include "baseline.h"
 #include "stopwatch.h"
 #include <cippazhey.h>
@@ -58,10 +59,10 @@ static const struct kind {
     {NULL, NULL},
 };
 
-static void run(const struct kind *kind, uint32_t method, uint32_t n, long times) {
-    uint32_t last = (1u << n) - 1;
+static void run(const struct kind *kind, uint32_t method, uint32_t n, uint32_t bits, long times) {
+    uint32_t last = (1u << n) - 1, greatest = (1u << bits) - 1;
     struct numbers c = {method, n, n, 90 & last, 60 & last, 7 & last, 33 & last, 18 & last, 201 & last, method - 2};
-    for (unsigned i = 0; i <= last; i++) table[i] = (uint8_t)((i * 5 + 3) & last);
+    for (unsigned i = 0; i <= last; i++) table[i] = (uint8_t)((i * 5 + 3) & greatest);
     for (long i = 0; i < times; i++) {
         memset(scratch, 0, sizeof scratch); // in the harness, so that it is counted with no call
         unsigned result = kind->call(&c, (size_t)1 << n);
@@ -73,7 +74,7 @@ static void run(const struct kind *kind, uint32_t method, uint32_t n, long times
 
 static double nanoseconds(const struct kind *kind, uint32_t method) {
     double from = nanoseconds_now();
-    run(kind, method, 8, CALLS);
+    run(kind, method, 8, 8, CALLS);
     return (nanoseconds_now() - from) / CALLS;
 }
 
@@ -94,13 +95,13 @@ static void print_times(void) {
 int main(int count, char **words) {
     volatile char page __attribute__((aligned(4096))) = 0;
     (void)page;
-    if (count != 5) {
+    if (count != 6) {
         print_times();
         return 0;
     }
     for (const struct kind *kind = kinds; kind->name != NULL; kind++) {
         if (!strcmp(words[1], kind->name)) {
-            run(kind, (uint32_t)atoi(words[2]), (uint32_t)atoi(words[3]), atol(words[4]));
+            run(kind, (uint32_t)atoi(words[2]), (uint32_t)atoi(words[3]), (uint32_t)atoi(words[4]), atol(words[5]));
             return 0;
         }
     }

@@ -1,5 +1,6 @@
 // How deep the stack of each exported call is: bytes below its return address. Each call runs on a stack of its own, which is filled with a
 // pattern before: the lowest byte that has changed after it is the deepest. Prints a row of the table for each call.
+#include <stdbool.h>
 #include <stdint.h>
 #include <stdio.h>
 #include <stdlib.h>
@@ -82,13 +83,21 @@ static size_t depth(void (*call)(void), uint8_t pattern) {
     return stack_at_entry - (uintptr_t)(stack + lowest);
 }
 
-// The deepest of many, with other patterns and other numbers: what is written may be what stood there.
+// Each value once, or half of them twice, which is fit and not balanced and is looked at for longer.
+static void fill_table(bool balanced) {
+    for (size_t at = 0; at < sizeof table; at++) {
+        table[at] = (uint8_t)(balanced ? at : at / 2);
+    }
+}
+
+// The deepest of many, with other patterns, numbers and tables: what is written may be what stood there.
 static void print_row(const char *name, void (*call)(void)) {
     size_t deepest = 0;
     for (unsigned round = 0; round < ROUNDS; round++) {
         for (size_t at = 0; at < sizeof numbers; at++) {
             numbers[at] = (uint8_t)rand();
         }
+        fill_table(round % 2 == 0);
         size_t found = depth(call, (uint8_t)(37 * round + 1));
         deepest = found > deepest ? found : deepest;
     }
@@ -96,9 +105,6 @@ static void print_row(const char *name, void (*call)(void)) {
 }
 
 int main(void) {
-    for (size_t at = 0; at < sizeof table; at++) {
-        table[at] = (uint8_t)at;
-    }
     print_row("`cippazhey_plain_call`, method 2", look_up_by_2);
     print_row("`cippazhey_plain_call`, method 3", look_up_by_3);
     print_row("`cippazhey_encrypt_frame`", encrypt);

@@ -3,7 +3,6 @@ use mathlib.Core.Path.{_≡_, sym, _∙_}
 use mathlib.Core.Bool.{Bool, true, false, not}
 use mathlib.Core.List.{List, _++_}
 use Prim.Native.Nat.{ℕ, _≤_, _<_}
-use native.Mathlib.Nat.{le-trans}
 use borrow.Author.Tests.{lt-ltb, le-ltb}
 use lib.ListN.{length}
 use Rattle.refusals.specs.Checks.{first-of}
@@ -34,7 +33,7 @@ module _ (c : Case) (table : List ℕ) where
     input-most z = box-accepted c table (sym told ∙ z) .1 .input-most
 
     pub output-most : k ≡ 0 → c .m ≤ 8
-    output-most z = le-trans (box-accepted c table (sym told ∙ z) .1 .output-most) (input-most z)
+    output-most z = box-accepted c table (sym told ∙ z) .1 .output-most
 
     -- 2 to 7, then 10 to 12
     pub at-box : (k ≡ 0 → ⊥) → k ≡ case-refusal c table

@@ -2,7 +2,7 @@
 use mathlib.Core.Path.{_≡_, refl}
 use mathlib.Core.List.{List, _++_}
 use Prim.Native.Nat.{ℕ, zero, suc, _≤_, _<_}
-use native.Mathlib.Nat.{lt-of-lt-of-le, le-trans}
+use native.Mathlib.Nat.{lt-of-lt-of-le}
 use native.Mathlib.Omega.{arith}
 use lib.Pow.{pow-mono}
 use Rattle.refusals.proofs.Checks.{up-to, first-most}
@@ -26,7 +26,7 @@ module _ (c : Case) (table scratch : List ℕ) where
   answer-byte e =
       let whole = plain-case c table scratch e .0 in
       let t = accepted c table whole .1 .table in
-      lt-of-lt-of-le (answer-small table c whole) (pow-mono (le-trans (t .output-most) (t .input-most)))
+      lt-of-lt-of-le (answer-small table c whole) (pow-mono (t .output-most))
 
   -- by the refusal, zero or not
   sizes : (k share : ℕ) → k ≤ 255 → (k ≡ 0 → share < 256) → (called k share 0 .refusal ≤ 255) × (called k share 0 .share < 256)

@@ -3,7 +3,8 @@ use mathlib.Core.Path.{refl}
 use Rattle.bits.specs.Xor.{_⊕_}
 use Rattle.refusals.specs.Checks.{first-of}
 use Rattle.refusals.specs.Tests.{outside, any-from}
-use Rattle.table.specs.Balanced.{at, count-of, all-below, each-often, balanced}
+use Rattle.table.specs.Balanced.{at, count-of}
+use Rattle.table.specs.Fit.{occurs, each-value, equally-often, closed, fit}
 use Rattle.table.specs.Refusals.{table-checks}
 use Rattle.lookup.specs.Case.{Q}
 use Rattle.lookup.specs.Row.{masked}
@@ -15,7 +16,7 @@ use Rattle.chain.specs.Chain.{second-case, following, chain-checks, chai
 use Rattle.chain.specs.Order.{Order-worked}
 
 pub order-worked : Order-worked
-unfolding Order-worked chain-refusal chain-checks following second-case answer first-of outside any-from at count-of all-below each-often
-    balanced table-checks Q masked r-prime scratch-2 answer-2 among found known method-of log-length scratch-length method-checks mask-checks
+unfolding Order-worked chain-refusal chain-checks following second-case answer first-of outside any-from at count-of occurs each-value
+    equally-often closed fit table-checks Q masked r-prime scratch-2 answer-2 among found known method-of log-length scratch-length method-checks mask-checks
     dirty scratch-checks log-checks box-checks other-checks _⊕_
 order-worked = refl

@@ -38,7 +38,7 @@ Order-worked =
     -- the first's 7 and the second's 2
     ∷ refused (first 2) (second 4 2 1) (2 ∷ 2 ∷ 3 ∷ 1 ∷ []) T zeros zeros 34 34
     -- the second's 7 and 18; 18 and the first's 10
-    ∷ refused (first 2) (second 2 1 1) S (0 ∷ 0 ∷ []) zeros zeros 34 34
+    ∷ refused (first 2) (second 2 3 1) S (1 ∷ replicate 7 0) zeros zeros 34 34
     ∷ refused (first 4) (second 2 1 1) S (0 ∷ 1 ∷ []) zeros zeros 34 34
     -- the first's 10 and 19; its 19 and 14; its 14 and the second's 10
     ∷ refused (first 4) (second 2 2 1) S T dirty zeros 34 34

@@ -165,8 +165,8 @@ chained-call-tells-nothing l k x y w w′ i j u v S-accepted T-accepted paired h
     by-rest zero none =
         counted l k x w w′ i j u v (λ c inside. number x hx c inside ∙ none) hi hj
         ∙ chain-tells-nothing (l .first-table) (l .second-table) k x y w w′ i j u v
-        (table-accepted (k .input) (k .between) (l .first-table) S-accepted .balance)
-        (table-accepted (k .between) (k .output) (l .second-table) T-accepted .balance) paired hx hy
+        (table-accepted (k .input) (k .between) (l .first-table) S-accepted .fitness)
+        (table-accepted (k .between) (k .output) (l .second-table) T-accepted .fitness) paired hx hy
         ∙ sym (counted l k y w w′ i j u v (λ c inside. number y hy c inside ∙ none) hi hj)
     by-rest (suc r) some =
         over-ext (chain-widths k)

@@ -1,7 +1,7 @@
 -- The third demand of a chain holds.
 use Rattle.probing.proofs.Sound.{alike}
-use Rattle.table.proofs.Balanced.{balanced-below}
-use Rattle.table.proofs.Even.{balanced-even}
+use Rattle.table.proofs.Fit.{fit-below}
+use Rattle.table.proofs.Even.{fit-even}
 use Rattle.lookup.specs.Methods.{method-of}
 use Rattle.lookup.proofs.Methods.{of-each, known-2-or-3}
 use Rattle.chain_secrecy.specs.Expressions.{chain-system, chain-setting}
@@ -22,7 +22,7 @@ even-chain-tells-nothing S T k x y w w′ i j u v even small even′ small′ pa
 
 pub chain-tells-nothing : Chain-tells-nothing
 unfolding Chain-tells-nothing Even-chain-tells-nothing
-chain-tells-nothing S T k x y w w′ i j u v balance balance′ =
-    even-chain-tells-nothing S T k x y w w′ i j u v (balanced-even (k .input) (k .between) S balance)
-    (balanced-below (k .input) (k .between) S balance) (balanced-even (k .between) (k .output) T balance′)
-    (balanced-below (k .between) (k .output) T balance′)
+chain-tells-nothing S T k x y w w′ i j u v fitness fitness′ =
+    even-chain-tells-nothing S T k x y w w′ i j u v (fit-even (k .input) (k .between) S fitness)
+    (fit-below (k .input) (k .between) S fitness) (fit-even (k .between) (k .output) T fitness′)
+    (fit-below (k .between) (k .output) T fitness′)

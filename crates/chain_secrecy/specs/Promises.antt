@@ -8,7 +8,8 @@ use Prim.Native.Nat.{ℕ, _+_, _*_, _^_, _≤_, _<_}
 use lib.ListN.{length}
 use Rattle.bits.specs.Xor.{_⊕_}
 use Rattle.counting.specs.Choice.{over, Within}
-use Rattle.table.specs.Balanced.{at, balanced}
+use Rattle.table.specs.Balanced.{at}
+use Rattle.table.specs.Fit.{fit}
 use Rattle.table.specs.Even.{Even}
 use Rattle.table.specs.Refusals.{table-refusal}
 use Rattle.lookup.specs.declared.Case.{Case}
@@ -24,12 +25,12 @@ use Rattle.chain_secrecy.specs.Count.{defined-logs, left-logs, chain-cou
 abbrev pub Paired : Boxes → Type 0
 Paired k = ((k .first-method ≡ 2) ⊎ (k .first-method ≡ 3)) × ((k .second-method ≡ 2) ⊎ (k .second-method ≡ 3))
 
--- for every two balanced tables, each pairing of methods, any two entries, of one log or of two, the same one twice included, any two values
+-- for every two fit tables, each pairing of methods, any two entries, of one log or of two, the same one twice included, any two values
 -- and any two inputs of the first table: as many choices of all masks put those values there for the one input as for the other
 unfoldable pub Chain-tells-nothing : Type 0
 Chain-tells-nothing =
-    (S T : List ℕ) (k : Boxes) (x y : ℕ) (w w′ : Which) (i j u v : ℕ) → balanced (k .input) (k .between) S ≡ true
-    → balanced (k .between) (k .output) T ≡ true → Paired k → x < 2 ^ k .input → y < 2 ^ k .input →
+    (S T : List ℕ) (k : Boxes) (x y : ℕ) (w w′ : Which) (i j u v : ℕ) → fit (k .input) (k .between) S ≡ true
+    → fit (k .between) (k .output) T ≡ true → Paired k → x < 2 ^ k .input → y < 2 ^ k .input →
     chain-count S T k x w w′ i j u v ≡ chain-count S T k y w w′ i j u v
 
 -- the same for every two even tables with entries of their output's width
@@ -107,7 +108,7 @@ Choices-counted =
 -- The count in numbers, with the table 1, 0 second, and first unless another is named. Under method 2 twice there are 256 choices: none shows
 -- the first's answer as 0 and the second's x0, which is the same share, as 1; 64 show the first's r1 as 0 and the second's r1, which is the
 -- first's s1, as 0. Under method 3 twice there are 1024: 256 show the second's b and its comparison of turn 0 as 0. With the table 0, 1, 1, 0
--- first there are 2048: 256 show the first's x0 as 3 and the second's answer as 1. With 0, 0, 0, 1 first, which is not balanced, the masked entry
+-- first there are 2048: 256 show the first's x0 as 3 and the second's answer as 1. With 0, 0, 0, 1 first, which is not fit, the masked entry
 -- of turn 0 and the second's x0 are both 0 for 768 of as many where the input is 0, and for 256 where it is 3
 unfoldable pub Counts-computed : Type 0
 Counts-computed =

@@ -99,9 +99,9 @@ module _ (table scratch log sheet : List ℕ) (p : ProbePair) (x y : ℕ) (hx : 
   counts-alike e =
       let t = accepted (with-secret x p) table scratch log sheet e .countable in
       let side = 2 ^ max (p .n) (p .m) in
-      let balance = table-accepted (p .n) (p .m) table (t .table) .balance in
+      let fitness = table-accepted (p .n) (p .m) table (t .table) .fitness in
       ap (tabulate (2 ^ (2 * max (p .n) (p .m))))
-      (fun-ext (λ i. tells-nothing table (p .method) (p .n) (p .m) x y (p .first) (p .second) (i / side) (i % side) balance
+      (fun-ext (λ i. tells-nothing table (p .method) (p .n) (p .m) x y (p .first) (p .second) (i / side) (i % side) fitness
       (two-or-three (p .method) (t .method)) hx hy))
 
 pub secrets-alike : Secrets-alike

@@ -10,7 +10,8 @@ use Rattle.refusals.specs.Checks.{first-of}
 use Rattle.refusals.specs.Tests.{outside, any-from}
 use Rattle.refusals.specs.Left.{left}
 use Rattle.buffers.specs.Written.{in-front}
-use Rattle.table.specs.Balanced.{at, count-of, all-below, each-often, balanced}
+use Rattle.table.specs.Balanced.{at, count-of}
+use Rattle.table.specs.Fit.{occurs, each-value, equally-often, closed, fit}
 use Rattle.table.specs.Refusals.{table-checks}
 use Rattle.table.specs.Tabulate.{tabulate}
 use Rattle.lookup.specs.Case.{Q}
@@ -30,8 +31,8 @@ use Rattle.count_sheet.proofs.Promises.{secrets-alike}
 
 -- by computation for secret 0, and by `secrets-alike` for the other
 first-secret : worked 2 0 0 21 ≡ 8 ∷ 8 ∷ 8 ∷ 8 ∷ 7 ∷ []
-unfolding _⊕_ sum over first-of outside any-from left in-front at count-of all-below each-often balanced table-checks tabulate Q
-    entry value-of masked r-prime scratch-2 answer-2 among found known method-of log-of log-length scratch-length pass-lines passes-lines
+unfolding _⊕_ sum over first-of outside any-from left in-front at count-of occurs each-value equally-often closed fit table-checks tabulate
+    Q entry value-of masked r-prime scratch-2 answer-2 among found known method-of log-of log-length scratch-length pass-lines passes-lines
     lines chosen-case mask-widths value-at shows count value-width pair-checks buffer-checks sheet-checks count-refusal count-for counts
     sheet-left
 first-secret = refl
@@ -43,8 +44,8 @@ p12-right x h =
     secrets-alike (1 ∷ 0 ∷ []) (replicate 2 0) (replicate 28 0) (9 ∷ 9 ∷ 9 ∷ 9 ∷ 7 ∷ []) p x 0 h (lit< tt) .1 ∙ first-secret
 
 pub worked-right : Worked-right
-unfolding Worked-right _⊕_ sum over first-of outside any-from left in-front at count-of all-below each-often balanced table-checks tabulate Q
-    entry value-of masked r-prime scratch-2 answer-2 comparison-table place-3 compared registers-3 answer-3 among found known method-of
+unfolding Worked-right _⊕_ sum over first-of outside any-from left in-front at count-of occurs each-value equally-often closed fit
+    table-checks tabulate Q entry value-of masked r-prime scratch-2 answer-2 comparison-table place-3 compared registers-3 answer-3 among found known method-of
     log-of log-length scratch-length pass-lines passes-lines lines chosen-case mask-widths value-at shows count value-width pair-checks
     buffer-checks sheet-checks count-refusal count-for counts sheet-left
-worked-right = (refl, refl, refl)
+worked-right = (refl, refl, refl, refl)

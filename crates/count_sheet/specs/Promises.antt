@@ -1,7 +1,7 @@
 -- What is promised of the count sheet. Each is a type; its proof stands in proofs/Promises.antt, that of the worked sheets in
 -- proofs/Worked.antt.
 use mathlib.Core.Path.{_≡_}
-use mathlib.Core.List.{List, [], _∷_}
+use mathlib.Core.List.{List, [], _∷_, _++_}
 use Prim.Native.Nat.{ℕ, _+_, _*_, _^_, _≤_, _<_}
 use lib.ListN.{length, take, drop, replicate}
 use Rattle.counting.specs.Sum.{sum}
@@ -45,7 +45,7 @@ unfoldable pub with-secret : (secret : ℕ) → ProbePair → ProbePair
 with-secret x p = record { method = p .method; n = p .n; m = p .m; secret = x; first = p .first; second = p .second }
 
 -- for two secrets of the table's width the call returns the same number and leaves the same sheet, scratch and log. A table that is not
--- balanced is refused for both; one that is, is counted for both where nothing else is at fault (`Nothing-else-refused`)
+-- fit is refused for both; one that is, is counted for both where nothing else is at fault (`Nothing-else-refused`)
 unfoldable pub Secrets-alike : Type 0
 Secrets-alike =
     (table scratch log sheet : List ℕ) (p : ProbePair) (x y : ℕ) → x < 2 ^ p .n → y < 2 ^ p .n →
@@ -80,8 +80,15 @@ worked method x i j =
 unfoldable pub P12-right : Type 0
 P12-right = (x : ℕ) → x < 2 → worked 2 x 0 21 ≡ 8 ∷ 8 ∷ 8 ∷ 8 ∷ 7 ∷ []
 
--- a turn's number, which is 0, beside x0, and x0 beside it; under method 3, b beside 1 - b
+-- the table 0, 3, which has m above n, so k is m: x0, which is 0 or 1, beside the answer, which is 0 to 3
+abbrev pub worked-wide : List ℕ
+worked-wide =
+    let p : ProbePair = record { method = 2; n = 1; m = 2; secret = 1; first = 0; second = 21 } in
+    sheet-left p (0 ∷ 3 ∷ []) (replicate 2 0) (replicate 22 0) (replicate 16 9 ++ 7 ∷ [])
+
+-- a turn's number, which is 0, beside x0, and x0 beside it; under method 3, b beside 1 - b; and the wide one
 unfoldable pub Worked-right : Type 0
 Worked-right =
     (worked 2 0 8 0 ≡ 16 ∷ 16 ∷ 0 ∷ 0 ∷ 7 ∷ []) × (worked 2 0 0 8 ≡ 16 ∷ 0 ∷ 16 ∷ 0 ∷ 7 ∷ [])
     × (worked 3 0 5 7 ≡ 0 ∷ 32 ∷ 32 ∷ 0 ∷ 7 ∷ [])
+    × (worked-wide ≡ replicate 8 16 ++ replicate 8 0 ++ 7 ∷ [])

@@ -2,7 +2,7 @@
 use mathlib.Core.Path.{_≡_, refl, sym, ap, fun-ext, _∙_}
 use mathlib.Core.List.{List, [], _∷_}
 use Prim.Native.Nat.{ℕ, zero, suc, _+_, _^_, _<_}
-use native.Mathlib.Nat.{zero-add}
+use native.Mathlib.Nat.{zero-add, mul-zero}
 use native.Mathlib.Omega.{arith}
 use lib.Pow.{pow-pos, pow-add}
 use Rattle.bits.specs.Xor.{_⊕_}
@@ -63,3 +63,9 @@ pub choices : (ws : List ℕ) → over ws (λ c. 1) ≡ 2 ^ total ws
 unfolding over total
 choices [] = refl
 choices (w ∷ ws) = sum-const (2 ^ w) _ ∙ rw (choices ws) (sym (pow-add 2 w (total ws)))
+
+-- nothing adds up to nothing
+pub over-none : (ws : List ℕ) → over ws (λ c. 0) ≡ 0
+unfolding over
+over-none [] = refl
+over-none (w ∷ ws) = sum-ext (2 ^ w) (λ _ _. over-none ws) ∙ sum-const (2 ^ w) 0 ∙ mul-zero (2 ^ w)

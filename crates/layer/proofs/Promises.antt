@@ -6,6 +6,7 @@ use native.Mathlib.Omega.{arith}
 use Rattle.counting.specs.Choice.{total}
 use Rattle.counting.proofs.Over.{choices}
 use Rattle.counting.proofs.Repeated.{total-repeated}
+use Rattle.table.proofs.Even.{balanced-fit}
 use Rattle.sbox.specs.Sbox.{sbox}
 use Rattle.sbox.specs.Promises.{Sbox-balanced}
 use Rattle.sbox.proofs.Promises.{sbox-balanced}
@@ -25,9 +26,9 @@ use Rattle.layer.proofs.Lent.{call-accepted, calls-counted}
 -- any entry is fit to be asked for
 pub logs-tell-nothing : (calls : ℕ) → Logs-tell-nothing calls
 unfolding Logs-tell-nothing layer-count Tells-nothing count
-logs-tell-nothing calls table n m x y a b i j u v balance hx hy ha hb =
+logs-tell-nothing calls table n m x y a b i j u v fitness hx hy ha hb =
     calls-alike n m (λ e. Unit {0}) (λ k case. log-of case table) calls x y
-    (λ k l i j u v _ _. tells-nothing table 2 n m (x k) (y k) i j u v balance (inl refl) (hx k l) (hy k l))
+    (λ k l i j u v _ _. tells-nothing table 2 n m (x k) (y k) i j u v fitness (inl refl) (hx k l) (hy k l))
     a b i j u v ha hb tt tt
 
 pub layer-tells-nothing : Layer-tells-nothing
@@ -36,7 +37,7 @@ layer-tells-nothing = logs-tell-nothing 16
 
 pub sbox-layer-tells-nothing : Sbox-layer-tells-nothing
 unfolding Sbox-layer-tells-nothing Layer-tells-nothing Logs-tell-nothing Sbox-balanced
-sbox-layer-tells-nothing x y a b i j u v = layer-tells-nothing sbox 8 8 x y a b i j u v sbox-balanced
+sbox-layer-tells-nothing x y a b i j u v = layer-tells-nothing sbox 8 8 x y a b i j u v (balanced-fit 8 8 sbox sbox-balanced)
 
 -- the entries below the log's length are fit
 pub layer-calls-tell-nothing : Layer-calls-tell-nothing

@@ -5,18 +5,18 @@ use mathlib.Core.Bool.{true}
 use mathlib.Core.List.{List, [], _∷_}
 use Prim.Native.Nat.{ℕ, _+_, _*_, _^_, _<_}
 use Rattle.counting.specs.Choice.{over, Within}
-use Rattle.table.specs.Balanced.{balanced}
+use Rattle.table.specs.Fit.{fit}
 use Rattle.table.specs.Refusals.{table-refusal}
 use Rattle.sbox.specs.Sbox.{sbox}
 use Rattle.lookup.specs.Call.{log-length}
 use Rattle.lookup.specs.Refusals.{logged-refusal}
 use Rattle.layer.specs.Layer.{Inputs-fit, Lent-fit, layer-widths, call-case, layer-count, layer-call-count}
 
--- for every balanced table, so many calls, any two entries, of one call's log or of two calls', any two values and any two states:
+-- for every fit table, so many calls, any two entries, of one call's log or of two calls', any two values and any two states:
 -- as many choices of all masks put those values there for the one state as for the other
 unfoldable pub Logs-tell-nothing : (calls : ℕ) → Type 0
 Logs-tell-nothing calls =
-    (table : List ℕ) (n m : ℕ) (x y : ℕ → ℕ) (a b i j u v : ℕ) → balanced n m table ≡ true → Inputs-fit calls n x → Inputs-fit calls n y →
+    (table : List ℕ) (n m : ℕ) (x y : ℕ → ℕ) (a b i j u v : ℕ) → fit n m table ≡ true → Inputs-fit calls n x → Inputs-fit calls n y →
     a < calls → b < calls → layer-count table calls n m x a b i j u v ≡ layer-count table calls n m y a b i j u v
 
 -- a layer is sixteen calls
@@ -55,7 +55,7 @@ unfoldable pub Choices-counted : Type 0
 Choices-counted = (n m : ℕ) → over (layer-widths 16 n m) (λ c. 1) ≡ 2 ^ (16 * (3 * n + 2 * m))
 
 -- the count in numbers. Two calls on the table 1, 0 have 1024 choices: r1 is 0 in call 0's log and 1 in the same log for none of them, and 1 in
--- call 1's for 256. One call on the table 0, 0, 0, 1, which is not balanced, has 256: the masked entry of turn 0 and the answer are both 0
+-- call 1's for 256. One call on the table 0, 0, 0, 1, which is not fit, has 256: the masked entry of turn 0 and the answer are both 0
 -- for 96 of them where the input is 0, and for 32 where it is 3
 unfoldable pub Counts-computed : Type 0
 Counts-computed =

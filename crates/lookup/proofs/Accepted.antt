@@ -3,7 +3,7 @@ use mathlib.Core.Path.{_≡_, sym}
 use mathlib.Core.Bool.{true}
 use mathlib.Core.List.{List}
 use Prim.Native.Nat.{ℕ, _^_, _≤_, _<_}
-use native.Mathlib.Nat.{lt-of-lt-of-le, le-trans}
+use native.Mathlib.Nat.{lt-of-lt-of-le}
 use native.Mathlib.Omega.{arith}
 use borrow.Author.Tests.{ltb-false, le-ltb, not-false}
 use lib.Pow.{pow-mono}
@@ -77,7 +77,7 @@ pub accepted-bounded : (method : Method) (c : Case) (table : List ℕ) → metho
 unfolding Q
 accepted-bounded method c table bit k =
     let byte : (v : ℕ) → v < 2 ^ c .m → v < 256
-    = λ v h. lt-of-lt-of-le h (pow-mono (le-trans (k .table .output-most) (k .table .input-most))) in
+    = λ v h. lt-of-lt-of-le h (pow-mono (k .table .output-most)) in
     record {
       width = k .table .input-most;
       size = pow-mono (k .table .input-most);

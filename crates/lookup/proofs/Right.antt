@@ -30,7 +30,7 @@ pub record Small (c : Case) (table : List ℕ) (a : ℕ) (row : Row) : Type 0 wh
 -- which is at most eight
 pub value-byte : {method : Method} {c : Case} {table : List ℕ} {a : ℕ} {row : Row} → Accepted method c table → Small c table a row
     → row .value c table a < 256
-value-byte k s = lt-of-lt-of-le (s .value) (pow-mono (max-le (k .table .input-most) (le-trans (k .table .output-most) (k .table .input-most))))
+value-byte k s = lt-of-lt-of-le (s .value) (pow-mono (max-le (k .table .input-most) (k .table .output-most)))
 
 pub record Right (method : Method) : Type 0 where
   pub answers : (c : Case) (table : List ℕ) → c .r1 < Q c → c .r2 < Q c → c .r3 < Q c → c .b ≤ method .b-most

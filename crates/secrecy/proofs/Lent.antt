@@ -130,5 +130,5 @@ call-tells-nothing table scratch lent method n m x y i j u v e k hx hy hi hj = b
 
     by-rest : (r : ℕ) → rest ≡ r → call-count table scratch lent method n m x i j u v ≡ call-count table scratch lent method n m y i j u v
     by-rest zero none =
-        counted none x hx ∙ tells-nothing table method n m x y i j u v (table-accepted n m table e .balance) k hx hy ∙ sym (counted none y hy)
+        counted none x hx ∙ tells-nothing table method n m x y i j u v (table-accepted n m table e .fitness) k hx hy ∙ sym (counted none y hy)
     by-rest (suc r) some = kept r some x hx ∙ sym (kept r some y hy)

@@ -7,8 +7,8 @@ use lib.Pow.{pow-add}
 use Rattle.counting.specs.Choice.{total}
 use Rattle.counting.proofs.Over.{choices}
 use Rattle.probing.proofs.Sound.{alike}
-use Rattle.table.proofs.Balanced.{balanced-below}
-use Rattle.table.proofs.Even.{balanced-even}
+use Rattle.table.proofs.Fit.{fit-below}
+use Rattle.table.proofs.Even.{fit-even}
 use Rattle.lookup.specs.Methods.{found, method-of}
 use Rattle.lookup.proofs.Methods.{of-each, known-2-or-3}
 use Rattle.secrecy.specs.Count.{single, mask-widths}
@@ -38,8 +38,8 @@ even-tells-nothing table method n m x y i j u v even small two-or-three hx hy =
 
 pub tells-nothing : Tells-nothing
 unfolding Tells-nothing Even-tells-nothing
-tells-nothing table method n m x y i j u v balance =
-    even-tells-nothing table method n m x y i j u v (balanced-even n m table balance) (balanced-below n m table balance)
+tells-nothing table method n m x y i j u v fitness =
+    even-tells-nothing table method n m x y i j u v (fit-even n m table fitness) (fit-below n m table fitness)
 
 pub choices-counted : Choices-counted
 unfolding Choices-counted mask-widths method-of found total

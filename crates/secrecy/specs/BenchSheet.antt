@@ -58,8 +58,15 @@ sheet =
     ∷ (refused (case-from 3 2 2 0 1 2 3 0 2 1) A 4 46 ∷ answer (case-from 3 2 2 0 1 2 3 0 2 1) A ∷ []) says (0 ∷ 2 ∷ [])
     -- P4: x0 = 4: 10; x0 = 3 is accepted
     ∷ (refused (case-from 2 2 2 4 1 2 3 0 2 0) A 4 34 ∷ refused (case-from 2 2 2 3 1 2 3 0 2 0) A 4 34 ∷ []) says (10 ∷ 0 ∷ [])
-    -- P5: n = 2, m = 3: 4
-    ∷ (refused (case-from 2 2 3 0 1 2 3 0 2 0) A 4 34 ∷ []) says (4 ∷ [])
+    -- P5 with P2's other arguments: n = 2, m = 3 is accepted, since a table's m may be above its n; m = 9 is 4
+    ∷ (refused (case-from 2 2 3 0 1 2 3 0 2 0) A 4 34 ∷ refused (case-from 2 2 9 0 1 2 3 0 2 0) A 4 34 ∷ []) says (0 ∷ 4 ∷ [])
+    -- fit tables that are not balanced, one bit in, two out: 0, 3; 1, 2, where 1 ⊕ 2 does not occur; and a constant one, 0, 0
+    ∷ (refused (case-from 2 1 2 0 1 0 3 1 1 0) (0 ∷ 3 ∷ []) 2 22 ∷ refused (case-from 3 1 2 0 1 0 3 1 1 1) (0 ∷ 3 ∷ []) 2 28
+    ∷ refused (case-from 2 1 2 0 1 0 3 1 1 0) (1 ∷ 2 ∷ []) 2 22 ∷ refused (case-from 2 1 1 0 1 0 0 1 1 0) (0 ∷ 0 ∷ []) 2 22 ∷ [])
+    says (0 ∷ 0 ∷ 0 ∷ 0 ∷ [])
+    -- n = 2, m = 3, table 0, 1, 2, 4: 7, since 0 ⊕ 1 ⊕ 2 = 3 does not occur; and 6 comes before 7: 0, 1, 2, 8
+    ∷ (refused (case-from 2 2 3 0 1 2 3 0 2 0) (0 ∷ 1 ∷ 2 ∷ 4 ∷ []) 4 34 ∷ refused (case-from 2 2 3 0 1 2 3 0 2 0) (0 ∷ 1 ∷ 2 ∷ 8 ∷ []) 4 34
+    ∷ []) says (7 ∷ 6 ∷ [])
     -- P6: n = 2, m = 1, table 0, 0, 0, 1: 7; table 0, 1, 1, 0, with every mask in its width, is accepted
     ∷ (refused (case-from 2 2 1 0 1 2 1 0 2 0) (0 ∷ 0 ∷ 0 ∷ 1 ∷ []) 4 34 ∷ refused (case-from 3 2 1 0 1 2 1 0 2 1)
     (0 ∷ 0 ∷ 0 ∷ 1 ∷ []) 4 46 ∷ []) says (7 ∷ 7 ∷ [])
@@ -86,6 +93,9 @@ sheet =
     -- P6's refused table leaks: kind 14 at a = 0 and the answer are both 0 for 96 of 256 choices where x = 0, and for 32 where x = 3
     ∷ (count (0 ∷ 0 ∷ 0 ∷ 1 ∷ []) 2 2 1 0 13 33 0 0 ∷ count (0 ∷ 0 ∷ 0 ∷ 1 ∷ []) 2 2 1 3 13 33 0 0 ∷ []) says (96 ∷ 32 ∷ [])
     ∷ (over (mask-widths 2 2 1) (λ c. 1) ∷ []) says (256 ∷ [])
+    -- the table 0, 3 does not: the same pair of positions, 13 and 21 here, is 3 and 0 for 16 of 128 choices, for both inputs
+    ∷ (count (0 ∷ 3 ∷ []) 2 1 2 0 13 21 3 0 ∷ count (0 ∷ 3 ∷ []) 2 1 2 1 13 21 3 0 ∷ []) says (16 ∷ 16 ∷ [])
+    ∷ (over (mask-widths 2 1 2) (λ c. 1) ∷ []) says (128 ∷ [])
     -- values above 1, which no line above counts: x0 = 3 and the answer 2 with table A, a sixteenth of the choices for every input
     ∷ (count A 2 2 2 0 0 33 3 2 ∷ count A 2 2 2 3 0 33 3 2 ∷ []) says (64 ∷ 64 ∷ [])
     ∷ (over (mask-widths 2 2 2) (λ c. 1) ∷ []) says (1024 ∷ [])

@@ -8,7 +8,8 @@ use Prim.Native.Nat.{ℕ, _+_, _*_, _^_, _≤_, _<_}
 use lib.ListN.{length}
 use Rattle.bits.specs.Xor.{_⊕_}
 use Rattle.counting.specs.Choice.{over, Within}
-use Rattle.table.specs.Balanced.{at, balanced}
+use Rattle.table.specs.Balanced.{at}
+use Rattle.table.specs.Fit.{fit}
 use Rattle.table.specs.Even.{Even}
 use Rattle.table.specs.Refusals.{table-refusal}
 use Rattle.lookup.specs.declared.Case.{Case}
@@ -17,11 +18,11 @@ use Rattle.lookup.specs.Refusals.{dirty, logged-refusal}
 use Rattle.calls.specs.Reply.{logged-log}
 use Rattle.secrecy.specs.Count.{single, chosen-case, mask-widths, count, call-count}
 
--- for every balanced table, each method, any two positions, the same one twice included, any two values and any two inputs:
+-- for every fit table, each method, any two positions, the same one twice included, any two values and any two inputs:
 -- as many choices of all masks put those values there for the one input as for the other
 unfoldable pub Tells-nothing : Type 0
 Tells-nothing =
-    (table : List ℕ) (method n m x y i j u v : ℕ) → balanced n m table ≡ true → (method ≡ 2) ⊎ (method ≡ 3) → x < 2 ^ n → y < 2 ^ n →
+    (table : List ℕ) (method n m x y i j u v : ℕ) → fit n m table ≡ true → (method ≡ 2) ⊎ (method ≡ 3) → x < 2 ^ n → y < 2 ^ n →
     count table method n m x i j u v ≡ count table method n m y i j u v
 
 -- the same for every even table with entries of the output's width

@@ -1,5 +1,5 @@
 -- The test of balance says what its definition says in words: each part holds of a balanced table, and all parts together make it balanced.
-use mathlib.Core.Path.{_≡_, refl}
+use mathlib.Core.Path.{_≡_, refl, sym, _∙_}
 use mathlib.Core.Bool.{Bool, true, false, and-eq-true-iff}
 use mathlib.Core.List.{List, [], _∷_}
 use mathlib.Core.Logic.{inl, inr}
@@ -25,6 +25,14 @@ pub all-pass : (k : ℕ) (test : ℕ → Bool) → ((i : ℕ) → i < k → test
 unfolding all-below
 all-pass zero test h = refl
 all-pass (suc k) test h = and-eq-true-iff (all-below k test) (test k) .1 (all-pass k test (λ i l. h i (omega arith)), h k (le-refl _))
+
+-- one that fails is enough
+pub one-fails : (k : ℕ) (test : ℕ → Bool) (i : ℕ) → i < k → test i ≡ false → all-below k test ≡ false
+one-fails k test i h e = one-fails-by-cases (all-below k test) refl
+  where
+    one-fails-by-cases : (t : Bool) → all-below k test ≡ t → t ≡ false
+    one-fails-by-cases true f = sym (below k test f i h) ∙ e
+    one-fails-by-cases false f = refl
 
 -- no number of a list is the least or more, so each is less; past the end it is 0
 pub at-below : (least : ℕ) (xs : List ℕ) → 0 < least → any-from least xs ≡ false → (i : ℕ) → at xs i < least

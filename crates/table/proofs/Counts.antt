@@ -104,24 +104,17 @@ tallying-ends xs i counts joined h t =
       large = λ m. (rw (drop-of-length-le xs h) at (t .large m)) ∙ or-false _;
     }
 
--- after some counts: none of them is more than they are joined, and no number comes up that was not there
+-- after some counts: none of them is more than they are joined
 pub record Joining (counts : List ℕ) (joined value : ℕ) : Type 0 where
   pub above : (v : ℕ) → v < value → at counts v ≤ joined
-  pub only : (times : ℕ) → ((v : ℕ) → v < 256 → (at counts v ≡ 0) ⊎ (at counts v ≡ times)) → (joined ≡ 0) ⊎ (joined ≡ times)
 
 pub join-begins : (counts : List ℕ) → Joining counts 0 0
-join-begins counts = record { above = λ v h. absurd (not-suc-le-zero h); only = λ times h. inl refl }
+join-begins counts = record { above = λ v h. absurd (not-suc-le-zero h) }
 
--- two numbers that are 0 or the same, joined
-or-only : (a b times : ℕ) → (a ≡ 0) ⊎ (a ≡ times) → (b ≡ 0) ⊎ (b ≡ times) → (bitOr a b ≡ 0) ⊎ (bitOr a b ≡ times)
-or-only a b times (inl p) q = rw (p, or-zero-l b) q
-or-only a b times (inr p) (inl q) = rw (p, q, or-zero-r times) (inr refl)
-or-only a b times (inr p) (inr q) = rw (p, q, or-self times) (inr refl)
-
-pub join-turns : (counts : List ℕ) (joined value : ℕ) → value < 256 → Joining counts joined value
+pub join-turns : (counts : List ℕ) (joined value : ℕ) → Joining counts joined value
     → Joining counts (bitOr joined (getD counts value 0)) (value + 1)
 unfolding at
-join-turns counts joined value h j =
+join-turns counts joined value j =
     rw (add-one value)
     (record {
       above = λ v l.
@@ -130,8 +123,7 @@ join-turns counts joined value h j =
             | inr k ↦ le-trans (j .above v k)
                 (or-above-l joined (getD counts value 0))
           ];
-      only = λ times f. or-only joined (getD counts value 0) times (j .only times f) (f value h);
     })
 
 pub join-ends : (counts : List ℕ) (joined value : ℕ) → 256 ≤ value → Joining counts joined value → Joined-counts counts joined
-join-ends counts joined value h j = record { above = λ v l. j .above v (le-trans l h); only = j .only }
+join-ends counts joined value h j = record { above = λ v l. j .above v (le-trans l h) }

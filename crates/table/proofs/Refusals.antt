@@ -10,7 +10,8 @@ use Rattle.refusals.specs.Checks.{_when_, first-of}
 use Rattle.refusals.specs.Tests.{outside, any-from}
 use Rattle.refusals.proofs.Checks.{stops, goes, none-applies, passed, numbered}
 use Rattle.refusals.proofs.Tests.{inside, not-outside}
-use Rattle.table.specs.Balanced.{at, balanced}
+use Rattle.table.specs.Balanced.{at}
+use Rattle.table.specs.Fit.{fit}
 use Rattle.table.specs.Refusals.{table-checks, table-refusal}
 use Rattle.table.proofs.Balanced.{at-below, none-from}
 
@@ -19,10 +20,10 @@ pub record Table (n m : ℕ) (xs : List ℕ) : Type 0 where
   pub input-least : 1 ≤ n
   pub input-most : n ≤ 8
   pub output-least : 1 ≤ m
-  pub output-most : m ≤ n
+  pub output-most : m ≤ 8
   pub long : length xs ≡ 2 ^ n
   pub small : (i : ℕ) → at xs i < 2 ^ m
-  pub balance : balanced n m xs ≡ true
+  pub fitness : fit n m xs ≡ true
 
 module _ (n m : ℕ) (xs : List ℕ) where
   -- the first check that applies gives its number
@@ -30,27 +31,27 @@ module _ (n m : ℕ) (xs : List ℕ) where
   unfolding table-refusal table-checks
   at-3 t = stops 3 _ t
 
-  pub at-4 : outside 1 8 n ≡ false → outside 1 n m ≡ true → 4 ≡ table-refusal n m xs
+  pub at-4 : outside 1 8 n ≡ false → outside 1 8 m ≡ true → 4 ≡ table-refusal n m xs
   unfolding table-refusal table-checks
   at-4 p t = goes 3 _ p (stops 4 _ t)
 
-  pub at-5 : outside 1 8 n ≡ false → outside 1 n m ≡ false → (length xs ≡ 2 ^ n → ⊥) → 5 ≡ table-refusal n m xs
+  pub at-5 : outside 1 8 n ≡ false → outside 1 8 m ≡ false → (length xs ≡ 2 ^ n → ⊥) → 5 ≡ table-refusal n m xs
   unfolding table-refusal table-checks
   at-5 p q t = goes 3 _ p (goes 4 _ q (stops 5 _ (rw (ne-eqb _ _ t))))
 
-  after-5 : {r : ℕ} → outside 1 8 n ≡ false → outside 1 n m ≡ false → length xs ≡ 2 ^ n
-      → r ≡ first-of (6 when (any-from (2 ^ m) xs) ∷ 7 when (not (balanced n m xs)) ∷ []) → r ≡ table-refusal n m xs
+  after-5 : {r : ℕ} → outside 1 8 n ≡ false → outside 1 8 m ≡ false → length xs ≡ 2 ^ n
+      → r ≡ first-of (6 when (any-from (2 ^ m) xs) ∷ 7 when (not (fit n m xs)) ∷ []) → r ≡ table-refusal n m xs
   unfolding table-refusal table-checks
   after-5 p q e h = goes 3 _ p (goes 4 _ q (goes 5 _ (rw (eq-eqb _ _ e)) h))
 
-  pub at-6 : outside 1 8 n ≡ false → outside 1 n m ≡ false → length xs ≡ 2 ^ n → any-from (2 ^ m) xs ≡ true → 6 ≡ table-refusal n m xs
+  pub at-6 : outside 1 8 n ≡ false → outside 1 8 m ≡ false → length xs ≡ 2 ^ n → any-from (2 ^ m) xs ≡ true → 6 ≡ table-refusal n m xs
   at-6 p q e t = after-5 p q e (stops 6 _ t)
 
-  pub at-7 : outside 1 8 n ≡ false → outside 1 n m ≡ false → length xs ≡ 2 ^ n → any-from (2 ^ m) xs ≡ false → balanced n m xs ≡ false
+  pub at-7 : outside 1 8 n ≡ false → outside 1 8 m ≡ false → length xs ≡ 2 ^ n → any-from (2 ^ m) xs ≡ false → fit n m xs ≡ false
       → 7 ≡ table-refusal n m xs
   at-7 p q e f t = after-5 p q e (goes 6 _ f (stops 7 _ (rw t)))
 
-  pub at-end : outside 1 8 n ≡ false → outside 1 n m ≡ false → length xs ≡ 2 ^ n → any-from (2 ^ m) xs ≡ false → balanced n m xs ≡ true
+  pub at-end : outside 1 8 n ≡ false → outside 1 8 m ≡ false → length xs ≡ 2 ^ n → any-from (2 ^ m) xs ≡ false → fit n m xs ≡ true
       → 0 ≡ table-refusal n m xs
   at-end p q e f t = after-5 p q e (goes 6 _ f (goes 7 _ (rw t) none-applies))
 
@@ -68,7 +69,7 @@ module _ (n m : ℕ) (xs : List ℕ) where
       let t = passed _ 5 _ (s .1) in
       let u = passed _ 6 _ (t .1) in
       let v = inside 1 8 n (p .0) in
-      let w = inside 1 n m (q .0) in
+      let w = inside 1 8 m (q .0) in
       record {
         input-least = v .0;
         input-most = v .1;
@@ -76,7 +77,7 @@ module _ (n m : ℕ) (xs : List ℕ) where
         output-most = w .1;
         long = eqb-true _ _ (not-false _ (s .0));
         small = at-below (2 ^ m) xs (pow-pos m) (t .0);
-        balance = not-false _ (u .0);
+        fitness = not-false _ (u .0);
       }
 
   pub table-not-refused : Table n m xs → table-refusal n m xs ≡ 0
@@ -84,4 +85,4 @@ module _ (n m : ℕ) (xs : List ℕ) where
       sym
       (at-end (not-outside (t .input-least) (t .input-most)) (not-outside (t .output-least) (t .output-most)) (t .long)
       (none-from (2 ^ m) xs (t .small))
-      (t .balance))
+      (t .fitness))

@@ -1,4 +1,4 @@
--- What the third demand needs of a balanced table.
+-- What the third demand needs of a table.
 use mathlib.Core.Path.{_≡_}
 use Prim.Native.Nat.{ℕ, _^_, _<_}
 use Rattle.bits.specs.Xor.{_⊕_}

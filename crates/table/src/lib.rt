@@ -1,10 +1,12 @@
-// Balanced tables: which tables are refused, by one pass that counts how often each value stands in the table. What balance gives
-// stands in specs/ and proofs/.
+// Which tables are refused: their widths, their length, their entries, and tables that are not fit. What fitness gives stands in specs/ and
+// proofs/.
 ghost use mathlib.Core.Path.{_≡_};
 ghost use Prim.Native.Nat.{_≤_};
 ghost use lib.ListN.{length, replicate};
 ghost use Rattle.table.specs.Refusals.{table-refusal};
-ghost use Rattle.table.specs.Counts.{Tally, Joined-counts};
+ghost use Rattle.table.specs.Counts.{Tally};
+
+mod fitness;
 
 // The number of the first check that refuses the table or its widths, or 0.
 pub fn table_refusal(input_width: u32, output_width: u32, table: &[u8]) -> u32
@@ -13,7 +15,7 @@ pub fn table_refusal(input_width: u32, output_width: u32, table: &[u8]) -> u32
     if refusals::outside(1, 8, input_width) {
         return 3;
     }
-    if refusals::outside(1, input_width, output_width) {
+    if refusals::outside(1, 8, output_width) {
         return 4;
     }
     if table.len() != bits::power(input_width) as usize {
@@ -21,13 +23,10 @@ pub fn table_refusal(input_width: u32, output_width: u32, table: &[u8]) -> u32
     }
     let mut counts: [u16; 256] = [0; 256];
     let joined = tally(table, &mut counts);
-    let limit = bits::power(output_width);
-    if limit <= joined as u32 {
+    if bits::power(output_width) <= joined as u32 {
         return 6;
     }
-    let times = bits::power(input_width - output_width);
-    let often = joined_counts(&counts);
-    if often as u32 != times {
+    if !fitness::is_fit(input_width, output_width, table, &counts) {
         return 7;
     }
     0
@@ -47,20 +46,6 @@ fn tally(table: &[u8], counts: &mut [u16; 256]) -> u8
         counts[entry as usize] += 1;
         joined |= entry;
         i += 1;
-    }
-    joined
-}
-
-// All counts joined by bitwise or. In a balanced table each count is 0 or one power of two, so this is that power; in any other
-// table some count is too large and shows here. All 256 are joined at every width, so that every width runs the same code.
-fn joined_counts(counts: &[u16; 256]) -> u16
-    ensures { λ r. ⌜ Joined-counts (now (counts .entry)) r ⌝ }
-{
-    let mut joined = 0;
-    let mut value: u16 = 0;
-    while value < 256 {
-        joined |= counts[value as usize];
-        value += 1;
     }
     joined
 }

@@ -1,9 +1,9 @@
--- `table::joined_counts` meets its contract. The invariant is `Joining`: the counts passed are joined.
+-- `table::fitness::joined_counts` meets its contract. The invariant is `Joining`: the counts passed are joined.
 use borrow.Author.Needs.{needs}
 use Prim.Native.Nat.{_-_}
 use Rattle.table.proofs.Counts.{Joining, join-begins, join-turns, join-ends}
-use Rattle.table.proofs.joined_counts.Statement.{statement}
-use Rattle.table.proofs.joined_counts.Tie as tie
+use Rattle.table.proofs.fitness.joined_counts.Statement.{statement}
+use Rattle.table.proofs.fitness.joined_counts.Tie as tie
 
 abbrev Inv : tie.InvT-loop
 Inv counts joined₀ value₀ joined value = Joining counts joined value
