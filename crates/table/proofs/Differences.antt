@@ -67,10 +67,10 @@ module _ (counts : List ℕ) (difference limit : ℕ) where
   unfolding period
   period-same e v l = eqb-true _ _ (each-below limit _ e v l)
 
--- 0 is a period of any counts
-pub zero-period : (counts : List ℕ) (limit : ℕ) → period limit counts 0 ≡ true
-unfolding period
-zero-period counts limit = all-pass limit _ (λ v l. eq-eqb _ _ (ap (at counts) (zero-r v)))
+  -- 0 is a period of any counts
+  pub zero-period : difference ≡ 0 → true ≡ period limit counts difference
+  unfolding period
+  zero-period z = sym (all-pass limit _ (λ v l. eq-eqb _ _ (ap (at counts) (rw z (zero-r v)))))
 
 -- a power of two that is a limit of bytes
 pub power-most : (k power : ℕ) → power ≡ 2 ^ k → k ≤ 8 → power ≤ 256
@@ -196,7 +196,7 @@ module _ (m : ℕ) (counts : List ℕ) (first : ℕ) where
       sym (one-fails (2 ^ m) _ difference (le-trans (found .most) (pow-mono h)) (rw (ne-eqb _ _ (found .occurs nonzero)) (rw e at p)))
     where
       nonzero : difference ≡ 0 → ⊥
-      nonzero z = true≢false (sym (zero-period counts limit) ∙ (rw z at p))
+      nonzero z = true≢false (zero-period counts difference limit z ∙ p)
 
   pub periods-end : (bit : ℕ) → m ≤ bit → Periods-to m counts first bit → true ≡ all-periods (2 ^ m) counts first
   unfolding all-periods period

@@ -69,10 +69,14 @@ fn find_difference(counts: &[u16; 256], first: u8, bit: u32) -> u16
     0
 }
 
+// Whether shifting every value below the limit by the difference changes no count. 0 is a period of any counts.
 fn is_period(counts: &[u16; 256], difference: u16, limit: u16) -> bool
     requires { ⌜ (difference < 256) × (limit ≤ 256) ⌝ }
     ensures { λ r. ⌜ r ≡ period limit (now (counts .entry)) difference ⌝ }
 {
+    if difference == 0 {
+        return true;
+    }
     let mut value: u16 = 0;
     while value < limit {
         if count_at(counts, value, difference) != counts[value as usize] {
