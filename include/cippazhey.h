@@ -25,7 +25,7 @@ enum cippazhey_refusal {
     CIPPAZHEY_REFUSED_OUTPUT_WIDTH = 4,    // m is below 1 or above 8
     CIPPAZHEY_REFUSED_TABLE_LENGTH = 5,    // the table does not have exactly 2^n entries
     CIPPAZHEY_REFUSED_TABLE_ENTRY = 6,     // a table entry is 2^m or more
-    CIPPAZHEY_REFUSED_UNFIT_TABLE = 7,     // not fit: values occur unequally often, or the exclusive or of three does not
+    CIPPAZHEY_REFUSED_UNFIT_TABLE = 7,     // not fit: values occur unequally often, or the exclusive or of three is none of them
     CIPPAZHEY_REFUSED_INPUT_SHARE = 10,    // x0, r1, r2 or r3 is 2^n or more
     CIPPAZHEY_REFUSED_OUTPUT_MASK = 11,    // s1 or s2 is 2^m or more
     CIPPAZHEY_REFUSED_BIT = 12,            // b is above 0 under method 2, or above 1 under method 3
@@ -55,7 +55,7 @@ enum cippazhey_refusal {
 //   b            under method 3 a random bit, under method 2 always 0
 //   table        one byte an entry; only read. It must be fit: all values that occur in it do so equally often, and the
 //                exclusive or of any three of them, repeats allowed, occurs as well. A balanced table, which has every value
-//                below 2^m equally often, is fit; a permutation is balanced.
+//                below 2^m equally often, is fit; so is a permutation, with m = n.
 //   scratch      its first 2^n bytes must be zero; what stands behind them is not looked at, and stays. Accepted, those
 //                2^n bytes become method 2's masked table or method 3's comparison bytes. Refused, all of it stays.
 //

@@ -21,8 +21,8 @@ static void dirty_scratch_of_p2(struct trial p2) {
     expect(&p2, 13, "P7, dirty");
 }
 
-// Tables that are even without being full: the valve maker's, another without 0, one that has no 3 beside its 0, 1 and 2, and P5's with the
-// greatest m and with one above it.
+// The tables that the request names: the valve maker's, another without 0, one that is not fit since it has no 3 beside its 0, 1 and 2, and
+// P5's with the greatest m and with one above it.
 static void tables_of_the_request(const struct trial *p5) {
     const struct trial valve = {{2, 1, 2, 0, 1, 0, 2, 0, 1, 0}, {0, 3}, {0}, 2, 2};
     const struct trial without_0 = {{2, 1, 2, 0, 1, 0, 2, 0, 1, 0}, {2, 1}, {0}, 2, 2};

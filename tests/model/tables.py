@@ -29,7 +29,7 @@ def fit(chance, n, m, d):
     return mixed(chance, n, coset(chance, m, d))
 
 
-# Of as many values as the widths allow: balanced where m is at most n, and without equal entries where it is not less.
+# Of as many values as the widths allow: balanced where m is at most n, and without equal entries where m is at least n.
 def full(chance, n, m):
     return fit(chance, n, m, min(n, m))
 

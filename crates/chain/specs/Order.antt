@@ -1,5 +1,6 @@
--- The order of a chain's refusals in cases that compute: a chain of the tables 2, 0, 3, 1 and 0, 1, 1, 0 that is accepted, and chains with two
--- faults each. On each line stands the number that is handed back, behind the faults.
+-- The order of a chain's refusals in cases that compute: a chain of the tables 2, 0, 3, 1 and 0, 1, 1, 0 that is accepted, one of 0, 3 and
+-- 0, 1, 1, 0, whose first m is above its n, and chains with two faults each. On each line stands the number that is handed back, behind the
+-- faults.
 use mathlib.Core.Path.{_≡_}
 use mathlib.Core.List.{List, [], _∷_}
 use Prim.Native.Nat.{ℕ}
@@ -12,6 +13,9 @@ use Rattle.chain.specs.Chain.{chain-refusal}
 
 abbrev first : (r3 : ℕ) → Case
 first r3 = case-from 2 2 2 0 1 2 3 0 r3 0
+
+abbrev narrow : Case
+narrow = case-from 2 1 2 0 1 0 3 1 1 0
 
 abbrev second : (method n r3 : ℕ) → Second
 second method n r3 = record { method = method; n = n; m = 1; s1 = 1; s2 = 0; r3 = r3; b = 0 }
@@ -35,6 +39,9 @@ refused c d S T scratch scratch′ log log′ = chain-refusal c d (lent S T scra
 unfoldable pub Order-worked : Type 0
 Order-worked =
     refused (first 2) (second 2 2 1) S T zeros zeros 34 34
+    ∷ refused narrow (second 2 2 1) (0 ∷ 3 ∷ []) T zeros zeros 34 34
+    -- 18 though the first's n is the second's
+    ∷ refused narrow (second 2 1 1) (0 ∷ 3 ∷ []) (0 ∷ 1 ∷ []) zeros zeros 34 34
     -- the first's 7 and the second's 2
     ∷ refused (first 2) (second 4 2 1) (2 ∷ 2 ∷ 3 ∷ 1 ∷ []) T zeros zeros 34 34
     -- the second's 7 and 18; 18 and the first's 10
@@ -50,4 +57,4 @@ Order-worked =
     ∷ refused (first 2) (second 2 2 1) S T zeros dirty 34 33
     ∷ refused (first 2) (second 2 2 1) S T zeros zeros 34 33
     ∷ []
-    ≡ 0 ∷ 7 ∷ 7 ∷ 18 ∷ 10 ∷ 19 ∷ 14 ∷ 10 ∷ 13 ∷ 19 ∷ 14 ∷ []
+    ≡ 0 ∷ 0 ∷ 18 ∷ 7 ∷ 7 ∷ 18 ∷ 10 ∷ 19 ∷ 14 ∷ 10 ∷ 13 ∷ 19 ∷ 14 ∷ []

@@ -25,7 +25,7 @@ use Rattle.chain_secrecy.specs.Count.{defined-logs, left-logs, chain-cou
 abbrev pub Paired : Boxes → Type 0
 Paired k = ((k .first-method ≡ 2) ⊎ (k .first-method ≡ 3)) × ((k .second-method ≡ 2) ⊎ (k .second-method ≡ 3))
 
--- for every two fit tables, each pairing of methods, any two entries, of one log or of two, the same one twice included, any two values
+-- for every two fit tables, balanced ones among them (`Balanced-fit` of `table`), each pairing of methods, any two entries, of one log or of two, the same one twice included, any two values
 -- and any two inputs of the first table: as many choices of all masks put those values there for the one input as for the other
 unfoldable pub Chain-tells-nothing : Type 0
 Chain-tells-nothing =
@@ -109,7 +109,9 @@ Choices-counted =
 -- the first's answer as 0 and the second's x0, which is the same share, as 1; 64 show the first's r1 as 0 and the second's r1, which is the
 -- first's s1, as 0. Under method 3 twice there are 1024: 256 show the second's b and its comparison of turn 0 as 0. With the table 0, 1, 1, 0
 -- first there are 2048: 256 show the first's x0 as 3 and the second's answer as 1. With 0, 0, 0, 1 first, which is not fit, the masked entry
--- of turn 0 and the second's x0 are both 0 for 768 of as many where the input is 0, and for 256 where it is 3
+-- of turn 0 and the second's x0 are both 0 for 768 of as many where the input is 0, and for 256 where it is 3. With 0, 3 first, one bit in and
+-- two out, there are 2048 too: with 0, 1, 1, 0 second 256 show the masked entry of turn 0 as 3 and the second's x0 as 0, for either input; with
+-- 0, 0, 0, 1 second its masked entry of turn 0 and its answer are both 0 for 768 where the input is 0, and for 256 where it is 1
 unfoldable pub Counts-computed : Type 0
 Counts-computed =
     chain-count (1 ∷ 0 ∷ []) (1 ∷ 0 ∷ []) (boxes 2 2 1 1 1) 0 first second 21 0 0 1
@@ -118,5 +120,9 @@ Counts-computed =
     ∷ chain-count (0 ∷ 1 ∷ 1 ∷ 0 ∷ []) (1 ∷ 0 ∷ []) (boxes 2 2 2 1 1) 1 first second 0 21 3 1
     ∷ chain-count (0 ∷ 0 ∷ 0 ∷ 1 ∷ []) (1 ∷ 0 ∷ []) (boxes 2 2 2 1 1) 0 first second 13 0 0 0
     ∷ chain-count (0 ∷ 0 ∷ 0 ∷ 1 ∷ []) (1 ∷ 0 ∷ []) (boxes 2 2 2 1 1) 3 first second 13 0 0 0
+    ∷ chain-count (0 ∷ 3 ∷ []) (0 ∷ 1 ∷ 1 ∷ 0 ∷ []) (boxes 2 2 1 2 1) 0 first second 13 0 3 0
+    ∷ chain-count (0 ∷ 3 ∷ []) (0 ∷ 1 ∷ 1 ∷ 0 ∷ []) (boxes 2 2 1 2 1) 1 first second 13 0 3 0
+    ∷ chain-count (0 ∷ 3 ∷ []) (0 ∷ 0 ∷ 0 ∷ 1 ∷ []) (boxes 2 2 1 2 1) 0 second second 13 33 0 0
+    ∷ chain-count (0 ∷ 3 ∷ []) (0 ∷ 0 ∷ 0 ∷ 1 ∷ []) (boxes 2 2 1 2 1) 1 second second 13 33 0 0
     ∷ []
-    ≡ 0 ∷ 64 ∷ 256 ∷ 256 ∷ 768 ∷ 256 ∷ []
+    ≡ 0 ∷ 64 ∷ 256 ∷ 256 ∷ 768 ∷ 256 ∷ 256 ∷ 256 ∷ 768 ∷ 256 ∷ []

@@ -6,7 +6,7 @@ use native.Mathlib.Omega.{arith}
 use Rattle.counting.specs.Choice.{total}
 use Rattle.counting.proofs.Over.{choices}
 use Rattle.counting.proofs.Repeated.{total-repeated}
-use Rattle.table.proofs.Even.{balanced-fit}
+use Rattle.table.proofs.Full.{balanced-fit}
 use Rattle.sbox.specs.Sbox.{sbox}
 use Rattle.sbox.specs.Promises.{Sbox-balanced}
 use Rattle.sbox.proofs.Promises.{sbox-balanced}

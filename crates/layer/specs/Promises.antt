@@ -12,7 +12,7 @@ use Rattle.lookup.specs.Call.{log-length}
 use Rattle.lookup.specs.Refusals.{logged-refusal}
 use Rattle.layer.specs.Layer.{Inputs-fit, Lent-fit, layer-widths, call-case, layer-count, layer-call-count}
 
--- for every fit table, so many calls, any two entries, of one call's log or of two calls', any two values and any two states:
+-- for every fit table, balanced ones among them (`Balanced-fit` of `table`), so many calls, any two entries, of one call's log or of two calls', any two values and any two states:
 -- as many choices of all masks put those values there for the one state as for the other
 unfoldable pub Logs-tell-nothing : (calls : ℕ) → Type 0
 Logs-tell-nothing calls =

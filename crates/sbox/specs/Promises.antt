@@ -3,6 +3,7 @@ use mathlib.Core.Path.{_≡_}
 use mathlib.Core.Bool.{true}
 use Prim.Native.Nat.{ℕ, _<_}
 use Rattle.table.specs.Balanced.{at, balanced}
+use Rattle.table.specs.Refusals.{table-refusal}
 use Rattle.sbox.specs.Field.{times, inverse}
 use Rattle.sbox.specs.Sbox.{affine, sbox}
 
@@ -14,6 +15,9 @@ Entry-right = (b : ℕ) → b < 256 → at sbox b ≡ affine (inverse b)
 unfoldable pub Inverse-right : Type 0
 Inverse-right = (inverse 0 ≡ 0) × ((b : ℕ) → 0 < b → b < 256 → times b (inverse b) ≡ 1)
 
--- the table is balanced at n = m = 8: the calls accept it
+-- the table is balanced at n = m = 8, and so the calls accept it
 unfoldable pub Sbox-balanced : Type 0
 Sbox-balanced = balanced 8 8 sbox ≡ true
+
+unfoldable pub Sbox-accepted : Type 0
+Sbox-accepted = table-refusal 8 8 sbox ≡ 0

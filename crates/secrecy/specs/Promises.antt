@@ -18,7 +18,7 @@ use Rattle.lookup.specs.Refusals.{dirty, logged-refusal}
 use Rattle.calls.specs.Reply.{logged-log}
 use Rattle.secrecy.specs.Count.{single, chosen-case, mask-widths, count, call-count}
 
--- for every fit table, each method, any two positions, the same one twice included, any two values and any two inputs:
+-- for every fit table, balanced ones among them (`Balanced-fit` of `table`), each method, any two positions, the same one twice included, any two values and any two inputs:
 -- as many choices of all masks put those values there for the one input as for the other
 unfoldable pub Tells-nothing : Type 0
 Tells-nothing =

@@ -19,7 +19,7 @@ use Rattle.table.proofs.Fit.{In, entry-in, value-below}
 use Rattle.table.proofs.Periods.{Period, period-both, fit-period, periods-fit}
 use Rattle.table.proofs.Differences.{period-same}
 use Rattle.table.proofs.Often.{count-past, each-equal}
-use Rattle.table.proofs.Even.{balanced-fit}
+use Rattle.table.proofs.Full.{balanced-fit}
 
 -- two tests that follow from each other are the same
 both-ways : (s t : Bool) → (s ≡ true → t ≡ true) → (t ≡ true → s ≡ true) → s ≡ t

@@ -132,7 +132,7 @@ module _ {counts : List ℕ} {first bit end difference : ℕ} (k : Looking count
         none = λ _ d g l. k .absent d g (le-trans (rw (← (k .behind)) at l) h);
       }
 
--- two differences with the same highest bit differ by one below it
+-- the ⊕ of two numbers with the same highest bit is below it
 same-highest : (bit c d : ℕ) → 2 ^ bit ≤ c → c < 2 ^ suc bit → 2 ^ bit ≤ d → d < 2 ^ suc bit → c ⊕ d < 2 ^ bit
 unfolding _⊕_
 same-highest bit c d h k l o =

@@ -3,13 +3,11 @@
 use mathlib.Core.Path.{_≡_, refl, sym, ap, _∙_}
 use mathlib.Core.Bool.{Bool, true, false, cond}
 use mathlib.Core.List.{List, [], _∷_}
-use Prim.Native.Nat.{ℕ, suc, _+_, _*_, _-_, _/_, _^_, _≤_, _<_}
-use native.Mathlib.Nat.{add-mul, zero-mul, mul-zero, mul-one, mul-le-mul-left, mul-div-cancel-left}
-use native.Mathlib.Omega.{arith}
-use borrow.Author.Tests.{eqb-true, eqb-false, eq-eqb, ne-eqb, leb-true, leb-false}
-use lib.Dec.{eqb, leb}
+use Prim.Native.Nat.{ℕ, suc, _+_, _*_, _^_, _<_}
+use native.Mathlib.Nat.{add-mul, zero-mul, mul-zero}
+use borrow.Author.Tests.{eqb-true, eqb-false, eq-eqb, ne-eqb}
+use lib.Dec.{eqb}
 use lib.ListN.{length}
-use lib.Pow.{pow-pos, pow-lt, pow-add}
 use Rattle.bits.specs.Xor.{_⊕_}
 use Rattle.bits.proofs.Xor.{below, xors}
 use Rattle.counting.specs.Sum.{sum}
@@ -17,12 +15,10 @@ use Rattle.counting.proofs.Sum.{sum-ext, sum-add, sum-const, sum-first, sum-one
 use Rattle.counting.proofs.Shift.{shift}
 use Rattle.refusals.specs.Tests.{any-from}
 use Rattle.refusals.proofs.Tests.{all-below}
-use Rattle.table.specs.Balanced.{at, count-of, balanced}
+use Rattle.table.specs.Balanced.{at, count-of}
 use Rattle.table.specs.Fit.{fit}
 use Rattle.table.specs.Even.{Even}
-use Rattle.table.proofs.Balanced.{balanced-long, balanced-none-from, balanced-count, balanced-made}
-use Rattle.table.proofs.Fit.{In, value-below, entry-in, place-of, fit-made, fit-long, fit-none-from, fit-below, fit-equal}
-use Rattle.table.proofs.Often.{counts-sum}
+use Rattle.table.proofs.Fit.{In, entry-in, place-of, fit-long, fit-none-from, fit-below}
 use Rattle.table.proofs.Periods.{Period, fit-period, periods-fit}
 
 pub by-value : (k : ℕ) (g : ℕ → ℕ) (xs : List ℕ) → any-from k xs ≡ false
@@ -49,41 +45,6 @@ module _ (n m : ℕ) (xs : List ℕ) (h : fit n m xs ≡ true) where
         ∙ shift m (λ v. count-of v xs * g v) (below m (fit-below n m xs h x) (fit-below n m xs h y))
         ∙ sym (fit-sum g);
   }
-
--- every value below 2^m occurs in a balanced table, so the ⊕ of any three does
-pub balanced-fit : (n m : ℕ) (xs : List ℕ) → balanced n m xs ≡ true → fit n m xs ≡ true
-balanced-fit n m xs h =
-    let none = balanced-none-from n m xs h in
-    let small = value-below (2 ^ m) xs none in
-    let often = balanced-count n m xs h in
-    fit-made n m xs (balanced-long n m xs h) none (λ u v k l. often u (small u k) ∙ sym (often v (small v l)))
-    (λ u v w k l o.
-    record { occurs = rw (often (u ⊕ v ⊕ w) (below m (below m (small u k) (small v l)) (small w o))) (pow-pos (n - m)) })
-
--- where every value below 2^m occurs, their equal counts have the sum 2^n
-pub full-balanced : (n m : ℕ) (xs : List ℕ) → fit n m xs ≡ true → ((v : ℕ) → v < 2 ^ m → In v xs) → balanced n m xs ≡ true
-full-balanced n m xs h all =
-    balanced-made n m xs (fit-long n m xs h) (fit-below n m xs h)
-    (λ v l. equal v l ∙ times-is (count-of 0 xs) (all 0 (pow-pos m) .occurs) whole (leb m n) refl)
-  where
-    equal : (v : ℕ) → v < 2 ^ m → count-of v xs ≡ count-of 0 xs
-    equal v l = fit-equal n m xs h v 0 (all v l) (all 0 (pow-pos m))
-
-    whole : 2 ^ m * count-of 0 xs ≡ 2 ^ n
-    whole =
-        sym (sum-const (2 ^ m) (count-of 0 xs))
-        ∙ sum-ext (2 ^ m) (λ v l. sym (equal v l))
-        ∙ counts-sum (2 ^ m) xs (fit-none-from n m xs h)
-        ∙ fit-long n m xs h
-
-    times-is : (times : ℕ) → 1 ≤ times → 2 ^ m * times ≡ 2 ^ n → (t : Bool) → leb m n ≡ t → times ≡ 2 ^ (n - m)
-    times-is times some e true q =
-        let narrow = leb-true m n q in
-        let split : m + (n - m) ≡ n = omega arith in
-        let power : 2 ^ m * times ≡ 2 ^ m * 2 ^ (n - m) = e ∙ sym (ap (λ (k : ℕ). 2 ^ k) split) ∙ pow-add 2 m (n - m) in
-        sym (mul-div-cancel-left times (pow-pos m)) ∙ ap (λ k. k / 2 ^ m) power ∙ mul-div-cancel-left (2 ^ (n - m)) (pow-pos m)
-    times-is times some e false q =
-        absurd (omega (arith, mul-le-mul-left (2 ^ m) some, mul-one (2 ^ m), pow-lt (leb-false m n q)))
 
 -- how often a value stands in a table is a sum over its places
 count-sum : (v : ℕ) (xs : List ℕ) → sum (length xs) (λ z. cond (eqb (at xs z) v) 1 0) ≡ count-of v xs

@@ -4,6 +4,7 @@ pub mod Fit
 pub mod Periods
 pub mod Differences
 pub mod Even
+pub mod Full
 pub mod Decided
 pub mod Refusals
 pub mod Counts

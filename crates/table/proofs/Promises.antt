@@ -3,7 +3,7 @@ use mathlib.Core.Path.{_≡_, sym, ap, _∙_}
 use mathlib.Core.Bool.{true}
 use mathlib.Core.List.{List}
 use Prim.Native.Nat.{ℕ, _*_, _-_, _^_, _≤_, _<_}
-use native.Mathlib.Omega.{arith}
+use native.Mathlib.Nat.{le-trans}
 use borrow.Author.Tests.{leb-true, le-leb}
 use lib.Dec.{leb}
 use lib.ListN.{length}
@@ -11,10 +11,12 @@ use lib.Pow.{pow-pos}
 use Rattle.bits.specs.Xor.{_⊕_}
 use Rattle.table.specs.Balanced.{at, count-of, balanced}
 use Rattle.table.specs.Fit.{occurs, fit}
-use Rattle.table.specs.Promises.{Is-fit, Fit-right, Balanced-fit, Full-balanced, Fit-even, Even-fit, Accepted-fit}
+use Rattle.table.specs.Promises.{Is-fit, Fit-right, Balanced-fit, Balanced-accepted, Full-balanced}
+use Rattle.table.specs.Promises.{Fit-even, Even-fit, Accepted-fit}
 use Rattle.table.proofs.Balanced.{none-from}
 use Rattle.table.proofs.Fit.{In, fit-made, fit-long, fit-below, fit-equal, fit-closed}
 use Rattle.table.proofs.Even as even
+use Rattle.table.proofs.Full as full
 use Rattle.table.proofs.Refusals.{table-accepted, table-not-refused}
 
 seen : (v : ℕ) (xs : List ℕ) → occurs v xs ≡ true → In v xs
@@ -45,11 +47,28 @@ fit-right n m xs = (to, from)
 
 pub balanced-fit : Balanced-fit
 unfolding Balanced-fit
-balanced-fit = even.balanced-fit
+balanced-fit = full.balanced-fit
+
+pub balanced-accepted : Balanced-accepted
+unfolding Balanced-accepted
+balanced-accepted n m xs l h k b =
+    let narrow = full.balanced-narrow n m xs b in
+    let fitness = full.balanced-fit n m xs b in (
+      narrow,
+      table-not-refused n m xs (record {
+        input-least = l;
+        input-most = h;
+        output-least = k;
+        output-most = le-trans narrow h;
+        long = fit-long n m xs fitness;
+        small = fit-below n m xs fitness;
+        fitness = fitness;
+      }),
+    )
 
 pub full-balanced : Full-balanced
 unfolding Full-balanced
-full-balanced n m xs h all = even.full-balanced n m xs h (λ v l. seen v xs (all v l))
+full-balanced n m xs h all = full.full-balanced n m xs h (λ v l. seen v xs (all v l))
 
 pub fit-even : Fit-even
 unfolding Fit-even

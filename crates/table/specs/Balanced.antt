@@ -24,6 +24,7 @@ all-below (suc k) test = all-below k test && test k
 unfoldable pub each-often : (limit times : ℕ) → List ℕ → Bool
 each-often limit times table = all-below limit (λ v. eqb (count-of v table) times)
 
--- 2^n entries, none of them 2^m or more, and each value below 2^m in exactly 2^(n - m) of them
+-- 2^n entries, none of them 2^m or more, and each value below 2^m in exactly 2^(n - m) of them. Where m is above n no table is: 2^(n - m) is 1,
+-- and there are more values than entries
 unfoldable pub balanced : (n m : ℕ) → List ℕ → Bool
 balanced n m table = eqb (length table) (2 ^ n) && not (any-from (2 ^ m) table) && each-often (2 ^ m) (2 ^ (n - m)) table

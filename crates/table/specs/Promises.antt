@@ -1,7 +1,7 @@
 -- What is promised of fit tables. Each is a type; its proof stands in proofs/Promises.antt.
 use mathlib.Core.Path.{_≡_}
 use mathlib.Core.Bool.{true, false}
-use mathlib.Core.List.{List, [], _∷_}
+use mathlib.Core.List.{List}
 use Prim.Native.Nat.{ℕ, _^_, _≤_, _<_}
 use lib.ListN.{length}
 use Rattle.bits.specs.Xor.{_⊕_}
@@ -11,8 +11,8 @@ use Rattle.table.specs.Fit.{occurs, fit}
 use Rattle.table.specs.Even.{Even}
 use Rattle.table.specs.Refusals.{table-refusal}
 
--- what fit means, in words: 2^n entries, all below 2^m; any two values that occur do so equally often; the ⊕ of any three that occur,
--- repeats allowed, occurs
+-- what fit means, without a test that computes: 2^n entries, all below 2^m; any two values that occur do so equally often; the ⊕ of any
+-- three that occur, repeats allowed, occurs
 pub record Is-fit (n m : ℕ) (table : List ℕ) : Type 0 where
   pub long : length table ≡ 2 ^ n
   pub small : (i : ℕ) → at table i < 2 ^ m
@@ -25,6 +25,10 @@ Fit-right = (n m : ℕ) (table : List ℕ) → (fit n m table ≡ true → Is-fi
 -- every balanced table is fit
 unfoldable pub Balanced-fit : Type 0
 Balanced-fit = (n m : ℕ) (table : List ℕ) → balanced n m table ≡ true → fit n m table ≡ true
+
+-- so what was accepted when 7 was asked of balance still is; a balanced table's m is at most its n
+unfoldable pub Balanced-accepted : Type 0
+Balanced-accepted = (n m : ℕ) (table : List ℕ) → 1 ≤ n → n ≤ 8 → 1 ≤ m → balanced n m table ≡ true → (m ≤ n) × (table-refusal n m table ≡ 0)
 
 -- and a fit table in which every value below 2^m occurs is balanced
 unfoldable pub Full-balanced : Type 0

@@ -1,5 +1,5 @@
-// Whether a table is fit, from the counts of its values. The caller has checked the widths, the length and the size of the entries, so the
-// functions have a `requires`. Nothing here looks at a share.
+// Whether a table is fit, from the counts of its values. The caller has checked the widths, the length and the size of the entries: what the
+// functions need of that is their `requires`. Nothing here looks at a share.
 ghost use mathlib.Core.Path.{_≡_};
 ghost use Prim.Native.Nat.{_^_, _≤_, _<_};
 ghost use Rattle.bits.specs.Xor.{_⊕_};
@@ -7,7 +7,8 @@ ghost use Rattle.table.specs.Balanced.{at};
 ghost use Rattle.table.specs.Fit.{fit};
 ghost use Rattle.table.specs.Counts.{Counted, Joined-counts, Difference-found, period, all-periods};
 
-// In a balanced table no value stands more than 2^(n - m) times, and then each does: nothing else is looked at.
+// Where m is at most n and no value stands in the table more than 2^(n - m) times, each value below 2^m stands in it just so often: it is
+// balanced, so fit, and no period is looked for.
 pub fn is_fit(input_width: u32, output_width: u32, table: &[u8], counts: &[u16; 256]) -> bool
     requires { ⌜ Counted «input_width» «output_width» (now table) (now counts) ⌝ }
     ensures { λ r. ⌜ r ≡ fit «input_width» «output_width» (now (table .entry)) ⌝ }
@@ -20,8 +21,8 @@ pub fn is_fit(input_width: u32, output_width: u32, table: &[u8], counts: &[u16; 
     all_periods(counts, table[0], output_width)
 }
 
-// All counts joined by bitwise or: in a balanced table the one that they all have. All 256 are joined at every width, so that every width
-// runs the same code.
+// All counts joined by bitwise or: in a balanced table the one that all values below 2^m have. All 256 are joined at every width, so that
+// every width runs the same code.
 fn joined_counts(counts: &[u16; 256]) -> u16
     ensures { λ r. ⌜ Joined-counts (now (counts .entry)) r ⌝ }
 {
@@ -34,8 +35,8 @@ fn joined_counts(counts: &[u16; 256]) -> u16
     joined
 }
 
-// Whether each difference of the first entry and another is a period of the counts. One for each highest bit is enough: two with the same
-// highest bit differ by one below it.
+// Whether each difference of the first entry and another is a period of the counts. One for each highest bit is enough. Let d be one that is
+// a period, and e another with the same highest bit: then e ⊕ d is again a difference of the first entry and another, and has a lower one.
 fn all_periods(counts: &[u16; 256], first: u8, output_width: u32) -> bool
     requires { ⌜ («output_width» ≤ 8) × (first < 2 ^ «output_width») ⌝ }
     ensures { λ r. ⌜ r ≡ all-periods (2 ^ «output_width») (now (counts .entry)) first ⌝ }

@@ -1,5 +1,4 @@
-// Which tables are refused: their widths, their length, their entries, and tables that are not fit. What fitness gives stands in specs/ and
-// proofs/.
+// Which tables are refused: by their widths, their length, an entry, or since they are not fit. What fitness gives stands in specs/ and proofs/.
 ghost use mathlib.Core.Path.{_≡_};
 ghost use Prim.Native.Nat.{_≤_};
 ghost use lib.ListN.{length, replicate};
