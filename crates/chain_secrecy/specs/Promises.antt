@@ -25,8 +25,9 @@ use Rattle.chain_secrecy.specs.Count.{defined-logs, left-logs, chain-cou
 abbrev pub Paired : Boxes → Type 0
 Paired k = ((k .first-method ≡ 2) ⊎ (k .first-method ≡ 3)) × ((k .second-method ≡ 2) ⊎ (k .second-method ≡ 3))
 
--- for every two fit tables, balanced ones among them (`Balanced-fit` of `table`), each pairing of methods, any two entries, of one log or of two, the same one twice included, any two values
--- and any two inputs of the first table: as many choices of all masks put those values there for the one input as for the other
+-- for every two fit tables, balanced ones among them (`Balanced-fit` of `table`), each pairing of methods, any two entries, of one log or of
+-- two, the same one twice included, any two values and any two inputs of the first table: as many choices of all masks put those values there
+-- for the one input as for the other
 unfoldable pub Chain-tells-nothing : Type 0
 Chain-tells-nothing =
     (S T : List ℕ) (k : Boxes) (x y : ℕ) (w w′ : Which) (i j u v : ℕ) → fit (k .input) (k .between) S ≡ true

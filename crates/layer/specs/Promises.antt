@@ -12,8 +12,8 @@ use Rattle.lookup.specs.Call.{log-length}
 use Rattle.lookup.specs.Refusals.{logged-refusal}
 use Rattle.layer.specs.Layer.{Inputs-fit, Lent-fit, layer-widths, call-case, layer-count, layer-call-count}
 
--- for every fit table, balanced ones among them (`Balanced-fit` of `table`), so many calls, any two entries, of one call's log or of two calls', any two values and any two states:
--- as many choices of all masks put those values there for the one state as for the other
+-- for every fit table, balanced ones among them (`Balanced-fit` of `table`), so many calls, any two entries, of one call's log or of two
+-- calls', any two values and any two states: as many choices of all masks put those values there for the one state as for the other
 unfoldable pub Logs-tell-nothing : (calls : ℕ) → Type 0
 Logs-tell-nothing calls =
     (table : List ℕ) (n m : ℕ) (x y : ℕ → ℕ) (a b i j u v : ℕ) → fit n m table ≡ true → Inputs-fit calls n x → Inputs-fit calls n y →

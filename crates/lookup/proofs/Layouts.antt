@@ -1,9 +1,11 @@
 -- The laws of a layout: its length, what holds of every line, and layouts whose rows show the same.
 use mathlib.Core.Path.{_≡_, refl, ap, ap₂, _∙_}
-use mathlib.Core.List.{List, [], _∷_, _++_, map, map-append}
-use Prim.Native.Nat.{ℕ, zero, suc, _*_, _<_}
+use mathlib.Core.List.{List, [], _∷_, _++_, map, map-append, append-assoc}
+use Prim.Native.Nat.{ℕ, zero, suc, _+_, _*_, _<_}
 use native.Mathlib.Omega.{arith}
-use lib.ListN.{length, length-append, length-map}
+use lib.ListN.{length, getD, length-append, length-map, List·getD-append}
+use lib.Seq.{getD-append-add}
+use Rattle.table.specs.Balanced.{at}
 use Rattle.lookup.specs.Layout.{Layout, pass-lines, passes-lines, lines, all-rows, layout-size}
 use Rattle.lookup.proofs.Each.{Each, none, more, each-append, each-split, each-image}
 
@@ -118,3 +120,36 @@ module _ {A : Type 0} (f g : ℕ → A → ℕ) (turns : ℕ) where
       → lines f turns l ≡ lines g turns l
   lines-agree l first middle last =
       lines-same f g turns l l (record { head = rows-agree first; passes = passes-agree (l .passes) middle; end = rows-agree last })
+
+-- what the first turn of the first pass shows, and what the end shows, by their positions
+module _ {A : Type 0} (show : ℕ → A → ℕ) where
+  first-of-pass : (turns : ℕ) (pass : List A) (rest : List ℕ) (i : ℕ) → i < length pass
+      → at (pass-lines show (suc turns) pass ++ rest) i ≡ at (map (show 0) pass) i
+  unfolding pass-lines at
+  first-of-pass zero pass rest i h = List·getD-append (map (show 0) pass) rest 0 i (rw (length-map pass (show 0)) h)
+  first-of-pass (suc a) pass rest i h =
+      ap (λ ls. getD ls i 0) (append-assoc (pass-lines show (suc a) pass) (map (show (suc a)) pass) rest)
+      ∙ first-of-pass a pass (map (show (suc a)) pass ++ rest) i h
+
+  pub at-first-turn : (turns : ℕ) (head pass : List A) (passes : List (List A)) (end : List A) (i : ℕ) → i < length pass
+      → at (lines show (suc turns) (record { head = head; passes = pass ∷ passes; end = end })) (length head + i) ≡ at (map (show 0) pass) i
+  unfolding lines passes-lines at
+  at-first-turn turns head pass passes end i h =
+      let behind = passes-lines show (suc turns) passes ++ map (show 0) end in
+      ap (λ ls. getD ls (length head + i) 0)
+      (regrouped (map (show 0) head) (pass-lines show (suc turns) pass) (passes-lines show (suc turns) passes) (map (show 0) end))
+      ∙ rw (← (length-map head (show 0))) (getD-append-add (map (show 0) head) (pass-lines show (suc turns) pass ++ behind) i 0)
+      ∙ first-of-pass turns pass behind i h
+    where
+      regrouped : (a b c d : List ℕ) → a ++ (b ++ c) ++ d ≡ a ++ (b ++ (c ++ d))
+      regrouped a b c d = simp append-assoc
+
+  pub at-end : (turns : ℕ) (l : Layout A) (i : ℕ)
+      → at (lines show turns l) (length (l .head) + length (all-rows (l .passes)) * turns + i) ≡ at (map (show 0) (l .end)) i
+  unfolding lines at
+  at-end turns l i =
+      let front = map (show 0) (l .head) ++ passes-lines show turns (l .passes) in
+      let long : length front ≡ length (l .head) + length (all-rows (l .passes)) * turns
+      = length-append (map (show 0) (l .head)) (passes-lines show turns (l .passes))
+      ∙ rw (length-map (l .head) (show 0), passes-long show turns (l .passes)) in
+      rw (← long) (getD-append-add front (map (show 0) (l .end)) i 0)

@@ -31,6 +31,12 @@ pub passed : (t : Bool) (k : ℕ) (cs : List Check) → first-of (suc k when t �
 unfolding first-of
 passed t k cs e = past t (suc k) (first-of cs) (omega arith) e
 
+-- another number was handed back, so the first check does not apply
+pub passed-other : (t : Bool) (k r : ℕ) (cs : List Check) → (k ≡ r → ⊥) → first-of (k when t ∷ cs) ≡ r → (t ≡ false) × (first-of cs ≡ r)
+unfolding first-of
+passed-other true k r cs h e = absurd (h e)
+passed-other false k r cs h e = (refl, e)
+
 -- each check has a number other than 0, which means acceptance
 unfoldable pub numbered : List Check → Bool
 numbered [] = true

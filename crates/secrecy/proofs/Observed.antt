@@ -36,7 +36,7 @@ at-map f d e (x ∷ xs) zero = refl
 at-map f d e (x ∷ xs) (suc i) = at-map f d e xs i
 
 -- the value of an entry is its row's
-value-of-row : (c : Case) (table : List ℕ) (turns : ℕ) (l : Layout Row) (i : ℕ)
+pub value-of-row : (c : Case) (table : List ℕ) (turns : ℕ) (l : Layout Row) (i : ℕ)
     → value-of (at (lines (row-entry c table) turns l) i) ≡ value-of (at (lines (row-value c table) turns l) i)
 unfolding at
 value-of-row c table turns l i =

@@ -18,12 +18,24 @@ use Rattle.lookup.specs.Refusals.{dirty, logged-refusal}
 use Rattle.calls.specs.Reply.{logged-log}
 use Rattle.secrecy.specs.Count.{single, chosen-case, mask-widths, count, call-count}
 
--- for every fit table, balanced ones among them (`Balanced-fit` of `table`), each method, any two positions, the same one twice included, any two values and any two inputs:
--- as many choices of all masks put those values there for the one input as for the other
+-- two positions show any two values equally often for any two inputs
+abbrev pub Alike-at : (table : List ℕ) → (method n m i j : ℕ) → Type 0
+Alike-at table method n m i j =
+    (x y u v : ℕ) → x < 2 ^ n → y < 2 ^ n → count table method n m x i j u v ≡ count table method n m y i j u v
+
+-- for every fit table, balanced ones among them (`Balanced-fit` of `table`), each method, any two positions, the same one twice included, any
+-- two values and any two inputs: as many choices of all masks put those values there for the one input as for the other
 unfoldable pub Tells-nothing : Type 0
 Tells-nothing =
     (table : List ℕ) (method n m x y i j u v : ℕ) → fit n m table ≡ true → (method ≡ 2) ⊎ (method ≡ 3) → x < 2 ^ n → y < 2 ^ n →
     count table method n m x i j u v ≡ count table method n m y i j u v
+
+-- and no other table does: one that is refused with 7 tells something under both methods, by the masked entry of turn 0 and the answer: they
+-- do not count equally for all inputs. So no table that is safe is refused with 7
+unfoldable pub Unfit-tells : Type 0
+Unfit-tells =
+    (table : List ℕ) (n m : ℕ) → table-refusal n m table ≡ 7 →
+    (Alike-at table 2 n m 13 (9 + 6 * 2 ^ n) → ⊥) × (Alike-at table 3 n m 16 (9 + 9 * 2 ^ n) → ⊥)
 
 -- the same for every even table with entries of the output's width
 unfoldable pub Even-tells-nothing : Type 0

@@ -47,13 +47,13 @@ module _ (n m : ℕ) (xs : List ℕ) (h : fit n m xs ≡ true) where
   }
 
 -- how often a value stands in a table is a sum over its places
-count-sum : (v : ℕ) (xs : List ℕ) → sum (length xs) (λ z. cond (eqb (at xs z) v) 1 0) ≡ count-of v xs
+pub count-sum : (v : ℕ) (xs : List ℕ) → sum (length xs) (λ z. cond (eqb (at xs z) v) 1 0) ≡ count-of v xs
 unfolding at count-of sum
 count-sum v [] = refl
 count-sum v (x ∷ xs) = sum-first (length xs) _ ∙ ap (λ k. cond (eqb x v) 1 0 + k) (count-sum v xs)
 
 -- a shifted entry is v just if the entry is v shifted
-eqb-shifted : (a d v : ℕ) → eqb (a ⊕ d) v ≡ eqb a (v ⊕ d)
+pub eqb-shifted : (a d v : ℕ) → eqb (a ⊕ d) v ≡ eqb a (v ⊕ d)
 eqb-shifted a d v = eqb-shifted-by-cases (eqb (a ⊕ d) v) refl
   where
     eqb-shifted-by-cases : (t : Bool) → eqb (a ⊕ d) v ≡ t → t ≡ eqb a (v ⊕ d)

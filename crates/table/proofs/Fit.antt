@@ -80,19 +80,6 @@ value-below limit xs none v h = value-below-by-cases (leb limit v) refl
     value-below-by-cases true e = absurd (omega (arith, h .occurs, count-past limit xs none v (leb-true _ _ e)))
     value-below-by-cases false e = leb-false _ _ e
 
-pub fit-made : (n m : ℕ) (xs : List ℕ) → length xs ≡ 2 ^ n → any-from (2 ^ m) xs ≡ false
-    → ((u v : ℕ) → In u xs → In v xs → count-of u xs ≡ count-of v xs)
-    → ((u v w : ℕ) → In u xs → In v xs → In w xs → In (u ⊕ v ⊕ w) xs) → fit n m xs ≡ true
-unfolding fit equally-often closed occurs
-fit-made n m xs long none equal three =
-    rw (
-      eq-eqb _ _ long,
-      none,
-      values-pass xs (λ u. each-value xs (λ v. eqb (count-of u xs) (count-of v xs)))
-          (λ u h. values-pass xs _ (λ v k. eq-eqb _ _ (equal u v h k))),
-    )
-    (values-pass xs _ (λ u h. values-pass xs _ (λ v k. values-pass xs _ (λ w l. le-leb _ _ (three u v w h k l .occurs)))))
-
 module _ (n m : ℕ) (xs : List ℕ) (h : fit n m xs ≡ true) where
   pub fit-long : length xs ≡ 2 ^ n
   unfolding fit
@@ -115,3 +102,17 @@ module _ (n m : ℕ) (xs : List ℕ) (h : fit n m xs ≡ true) where
       record {
         occurs = leb-true _ _ (value-passes xs _ (value-passes xs _ (value-passes xs _ ((simp and-eq-true-iff at h) .1) u k) v l) w o);
       }
+
+-- and what is asked of it
+pub fit-made : (n m : ℕ) (xs : List ℕ) → length xs ≡ 2 ^ n → any-from (2 ^ m) xs ≡ false
+    → ((u v : ℕ) → In u xs → In v xs → count-of u xs ≡ count-of v xs)
+    → ((u v w : ℕ) → In u xs → In v xs → In w xs → In (u ⊕ v ⊕ w) xs) → fit n m xs ≡ true
+unfolding fit equally-often closed occurs
+fit-made n m xs long none equal three =
+    rw (
+      eq-eqb _ _ long,
+      none,
+      values-pass xs (λ u. each-value xs (λ v. eqb (count-of u xs) (count-of v xs)))
+          (λ u h. values-pass xs _ (λ v k. eq-eqb _ _ (equal u v h k))),
+    )
+    (values-pass xs _ (λ u h. values-pass xs _ (λ v k. values-pass xs _ (λ w l. le-leb _ _ (three u v w h k l .occurs)))))

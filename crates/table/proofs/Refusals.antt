@@ -1,14 +1,15 @@
 -- The table's checks, as code goes through them, and what an accepted table is known to be.
 use mathlib.Core.Path.{_≡_, refl, sym}
-use mathlib.Core.Bool.{true, false, not}
+use mathlib.Core.Bool.{Bool, true, false, not}
 use mathlib.Core.List.{List, [], _∷_}
 use Prim.Native.Nat.{ℕ, _^_, _≤_, _<_}
+use native.Mathlib.Omega.{arith}
 use borrow.Author.Tests.{eq-eqb, ne-eqb, eqb-true, not-false}
 use lib.ListN.{length}
 use lib.Pow.{pow-pos}
 use Rattle.refusals.specs.Checks.{_when_, first-of}
 use Rattle.refusals.specs.Tests.{outside, any-from}
-use Rattle.refusals.proofs.Checks.{stops, goes, none-applies, passed, numbered}
+use Rattle.refusals.proofs.Checks.{stops, goes, none-applies, passed, passed-other, numbered}
 use Rattle.refusals.proofs.Tests.{inside, not-outside}
 use Rattle.table.specs.Balanced.{at}
 use Rattle.table.specs.Fit.{fit}
@@ -24,6 +25,11 @@ pub record Table (n m : ℕ) (xs : List ℕ) : Type 0 where
   pub long : length xs ≡ 2 ^ n
   pub small : (i : ℕ) → at xs i < 2 ^ m
   pub fitness : fit n m xs ≡ true
+
+last-applies : (b : Bool) → first-of (7 when (not b) ∷ []) ≡ 7 → b ≡ false
+unfolding first-of
+last-applies true e = absurd (omega arith)
+last-applies false e = refl
 
 module _ (n m : ℕ) (xs : List ℕ) where
   -- the first check that applies gives its number
@@ -79,6 +85,16 @@ module _ (n m : ℕ) (xs : List ℕ) where
         small = at-below (2 ^ m) xs (pow-pos m) (t .0);
         fitness = not-false _ (u .0);
       }
+
+  -- a table that is refused with 7 has passed the other checks
+  pub table-unfit : table-refusal n m xs ≡ 7 → (m ≤ 8) × (length xs ≡ 2 ^ n) × (any-from (2 ^ m) xs ≡ false) × (fit n m xs ≡ false)
+  unfolding table-refusal table-checks
+  table-unfit e =
+      let p = passed-other _ 3 7 _ (λ z. omega arith) e in
+      let q = passed-other _ 4 7 _ (λ z. omega arith) (p .1) in
+      let s = passed-other _ 5 7 _ (λ z. omega arith) (q .1) in
+      let t = passed-other _ 6 7 _ (λ z. omega arith) (s .1) in
+      (inside 1 8 m (q .0) .1, eqb-true _ _ (not-false _ (s .0)), t .0, last-applies (fit n m xs) (t .1))
 
   pub table-not-refused : Table n m xs → table-refusal n m xs ≡ 0
   table-not-refused t =

@@ -3,7 +3,8 @@ use borrow.Author.Needs.{needs}
 use borrow.Author.Tests.{not-true, not-false}
 use Prim.Native.Nat.{_-_}
 use Rattle.refusals.proofs.Tests.{told}
-use Rattle.table.proofs.Differences.{power-most, power-fits, difference-byte, Periods-to, periods-begin, periods-turn, periods-stop, periods-end}
+use Rattle.table.proofs.Differences.{power-most, power-fits, difference-byte}
+use Rattle.table.proofs.Differences.{Periods-to, periods-begin, periods-turn, periods-stop, periods-end}
 use Rattle.table.proofs.fitness.all_periods.Statement.{statement}
 use Rattle.table.proofs.fitness.all_periods.Tie as tie
 

@@ -1,0 +1,150 @@
+-- A table that is not fit tells something, under both methods: the masked entry of turn 0 beside the answer.
+use mathlib.Core.Path.{_≡_, refl, sym, ap, _∙_}
+use mathlib.Core.Bool.{true, false, cond, true≢false}
+use mathlib.Core.List.{List, [], _∷_, map}
+use Prim.Native.Nat.{ℕ, zero, suc, _+_, _*_, _-_, _/_, _^_, _≤_, _<_}
+use native.Mathlib.Nat.{lt-of-lt-of-le, mul-pos, mul-div-cancel, mul-div-cancel-left}
+use native.Mathlib.Omega.{arith}
+use lib.Dec.{lit<}
+use lib.ListN.{length}
+use lib.Pow.{pow-pos, pow-mono, suc-ones}
+use Rattle.bits.specs.Xor.{_⊕_}
+use Rattle.bits.proofs.Xor.{below, zero-r, xors}
+use Rattle.counting.specs.Choice.{over, width, Within}
+use Rattle.counting.proofs.Over.{over-ext}
+use Rattle.refusals.specs.Tests.{any-from}
+use Rattle.table.specs.Balanced.{at, count-of}
+use Rattle.table.specs.Fit.{fit}
+use Rattle.table.proofs.Fit.{In, place-of}
+use Rattle.table.proofs.Balanced.{at-below}
+use Rattle.table.proofs.Refusals.{table-unfit}
+use Rattle.table.proofs.Periods.{Period, periods-fit}
+use Rattle.lookup.specs.declared.Case.{Case}
+use Rattle.lookup.specs.Case.{Q}
+use Rattle.lookup.specs.Entry.{value-of}
+use Rattle.lookup.specs.Layout.{all-rows}
+use Rattle.lookup.specs.Row.{Row, masked}
+use Rattle.lookup.specs.Method.{Method, class-width}
+use Rattle.lookup.specs.Method2.{head-2, pass-2, end-2}
+use Rattle.lookup.specs.Method3.{head-3, pass-3, end-3}
+use Rattle.lookup.specs.Methods.{found, method-of}
+use Rattle.lookup.specs.Call.{log-of}
+use Rattle.lookup.proofs.Entry.{value-kept}
+use Rattle.lookup.proofs.Layouts.{at-first-turn, at-end}
+use Rattle.lookup.proofs.Second.{answer-2-is}
+use Rattle.lookup.proofs.Third.{answer-3-is}
+use Rattle.secrecy.specs.Count.{single, chosen-case, mask-widths, value-at, shows, count}
+use Rattle.secrecy.specs.Promises.{Unfit-tells}
+use Rattle.secrecy.proofs.Observed.{value-of-row}
+use Rattle.secrecy.proofs.Hiding.{hiding-2, hiding-3}
+use Rattle.secrecy.proofs.Shown.{row-value}
+use Rattle.secrecy.proofs.Telling.{both, shown-both, counted-both}
+
+-- the value at a position of the first turn, and at one of the end
+first-value : (c : Case) (table : List ℕ) (head pass end : List Row) (i : ℕ)
+    → method-of (c .method) .layout ≡ record { head = head; passes = pass ∷ []; end = end } → i < length pass
+    → value-at (log-of c table) (length head + i) ≡ value-of (at (map (row-value c table 0) pass) i)
+unfolding value-at log-of Q
+first-value c table head pass end i e h =
+    value-of-row c table (2 ^ c .n) (method-of (c .method) .layout) (length head + i)
+    ∙ rw (e, ← (suc-ones (c .n))) (ap value-of (at-first-turn (row-value c table) (2 ^ c .n - 1) head pass [] end i h))
+
+end-value : (c : Case) (table : List ℕ) (i : ℕ)
+    → let l = method-of (c .method) .layout in
+    value-at (log-of c table) (length (l .head) + length (all-rows (l .passes)) * 2 ^ c .n + i)
+    ≡ value-of (at (map (row-value c table 0) (l .end)) i)
+unfolding value-at log-of Q
+end-value c table i =
+    value-of-row c table (2 ^ c .n) (method-of (c .method) .layout) _
+    ∙ ap value-of (at-end (row-value c table) (2 ^ c .n) (method-of (c .method) .layout) i)
+
+-- The two values of a method whose masked entry of turn 0 stands at position p and whose answer stands at q
+module _ (number n m w p q : ℕ) (table : List ℕ) (widths : mask-widths number n m ≡ n ∷ n ∷ n ∷ m ∷ m ∷ w ∷ [])
+    (small : (z : ℕ) → at table z < 2 ^ m) (long : length table ≡ 2 ^ n) (narrow : m ≤ 8) where
+  abbrev case : (x : ℕ) → (ℕ → ℕ) → Case
+  case x c = chosen-case single number n m x c
+
+  module _ (masked-at : (x : ℕ) (c : ℕ → ℕ) → value-at (log-of (case x c) table) p ≡ value-of (masked (case x c) table 0))
+      (answer-at : (x : ℕ) (c : ℕ → ℕ) → Within (mask-widths number n m) c
+      → value-at (log-of (case x c) table) q ≡ value-of (masked (case x c) table (c 0 ⊕ c 1))) where
+    byte : (z s s′ : ℕ) → s < 2 ^ m → s′ < 2 ^ m → value-of (at table z ⊕ s ⊕ s′) ≡ at table z ⊕ s ⊕ s′
+    byte z s s′ h k = value-kept (lt-of-lt-of-le (below m (below m (small z) h) k) (pow-mono narrow))
+
+    counted : (x u : ℕ) → x < 2 ^ n
+        → count table number n m x p q u 0 ≡ 2 ^ n * (count-of (u ⊕ at table x) table * (2 ^ n * (2 ^ m * 2 ^ w)))
+    unfolding count shows chosen-case masked shown-both both width
+    counted x u hx =
+        over-ext (mask-widths number n m) {g = λ c. shown-both n m w x u table (x ⊕ c 0 ⊕ c 1) (c 3) (c 4)}
+        (λ c k.
+        let s1 : c 3 < 2 ^ m = rw widths at (k .each 3) in
+        let s2 : c 4 < 2 ^ m = rw widths at (k .each 4) in
+        let back : x ⊕ c 0 ⊕ c 1 ⊕ (c 0 ⊕ c 1) ≡ x = simp xors in
+        rw (masked-at x c, answer-at x c k, back, zero-r (x ⊕ c 0 ⊕ c 1), byte (x ⊕ c 0 ⊕ c 1) (c 3) (c 4) s1 s2, byte x (c 3) (c 4) s1 s2))
+        ∙ rw widths (counted-both n m w x u table small hx long)
+
+    -- so where they count equally for any two inputs, each difference of two entries is a period
+    silent-fit : any-from (2 ^ m) table ≡ false
+        → ((x y u v : ℕ) → x < 2 ^ n → y < 2 ^ n → count table number n m x p q u v ≡ count table number n m y p q u v) → fit n m table ≡ true
+    silent-fit none same = periods-fit n m table long none periods
+      where
+        equal : (a b : ℕ) → 2 ^ n * (a * (2 ^ n * (2 ^ m * 2 ^ w))) ≡ 2 ^ n * (b * (2 ^ n * (2 ^ m * 2 ^ w))) → a ≡ b
+        equal a b e =
+            let some : 0 < 2 ^ n * (2 ^ m * 2 ^ w) = mul-pos (pow-pos n) (mul-pos (pow-pos m) (pow-pos w)) in
+            let inner : a * (2 ^ n * (2 ^ m * 2 ^ w)) ≡ b * (2 ^ n * (2 ^ m * 2 ^ w))
+            = sym (mul-div-cancel-left _ (pow-pos n)) ∙ ap (λ k. k / 2 ^ n) e ∙ mul-div-cancel-left _ (pow-pos n) in
+            sym (mul-div-cancel a some) ∙ ap (λ k. k / (2 ^ n * (2 ^ m * 2 ^ w))) inner ∙ mul-div-cancel b some
+
+        placed : (i j : ℕ) → i < 2 ^ n → j < 2 ^ n → Period table (at table i ⊕ at table j)
+        placed i j hi hj = record {
+          same = λ v.
+              let moved : v ⊕ at table j ⊕ at table i ≡ v ⊕ (at table i ⊕ at table j) = simp xors in
+              let kept : v ⊕ at table j ⊕ at table j ≡ v = simp xors in
+              ap (λ k. count-of k table) (sym moved)
+              ∙ equal _ _ (sym (counted i (v ⊕ at table j) hi) ∙ same i j (v ⊕ at table j) 0 hi hj ∙ counted j (v ⊕ at table j) hj)
+              ∙ ap (λ k. count-of k table) kept;
+        }
+
+        periods : (a b : ℕ) → In a table → In b table → Period table (a ⊕ b)
+        periods a b k l =
+            let i = place-of table a k in
+            let j = place-of table b l in
+            rw (← (i .2), ← (j .2)) (placed (i .0) (j .0) (rw long at (i .1)) (rw long at (j .1)))
+
+-- where the two stand: masked entry and answer, under each method
+module _ (table : List ℕ) (n m x : ℕ) (c : ℕ → ℕ) where
+  abbrev case-2 : Case
+  case-2 = chosen-case single 2 n m x c
+
+  abbrev case-3 : Case
+  case-3 = chosen-case single 3 n m x c
+
+  masked-at-2 : value-at (log-of case-2 table) 13 ≡ value-of (masked case-2 table 0)
+  unfolding chosen-case method-of found at
+  masked-at-2 = first-value case-2 table head-2 pass-2 end-2 5 refl (lit< tt)
+
+  masked-at-3 : value-at (log-of case-3 table) 16 ≡ value-of (masked case-3 table 0)
+  unfolding chosen-case method-of found at
+  masked-at-3 = first-value case-3 table head-3 pass-3 end-3 8 refl (lit< tt)
+
+  answer-at-2 : Within (mask-widths 2 n m) c → value-at (log-of case-2 table) (9 + 6 * 2 ^ n) ≡ value-of (masked case-2 table (c 0 ⊕ c 1))
+  unfolding chosen-case mask-widths method-of found at Q
+  answer-at-2 k =
+      let d = hiding-2 .drawn n m c k in
+      let place : 9 + 6 * 2 ^ n ≡ 8 + 6 * 2 ^ n + 1 = omega arith in
+      rw place (end-value case-2 table 1 ∙ ap value-of (answer-2-is case-2 table (d .r1) (d .r2) (d .r3)))
+
+  answer-at-3 : Within (mask-widths 3 n m) c → value-at (log-of case-3 table) (9 + 9 * 2 ^ n) ≡ value-of (masked case-3 table (c 0 ⊕ c 1))
+  unfolding chosen-case mask-widths method-of found at Q
+  answer-at-3 k =
+      let d = hiding-3 .drawn n m c k in
+      let place : 9 + 9 * 2 ^ n ≡ 8 + 9 * 2 ^ n + 1 = omega arith in
+      rw place (end-value case-3 table 1 ∙ ap value-of (answer-3-is case-3 table (omega (arith, d .b)) (d .r1) (d .r2) (d .r3)))
+
+pub unfit-tells : Unfit-tells
+unfolding Unfit-tells mask-widths method-of found
+unfit-tells table n m refused =
+    let t = table-unfit n m table refused in
+    let small = at-below (2 ^ m) table (pow-pos m) (t .2) in
+    let fit-2 = silent-fit 2 n m 0 13 (9 + 6 * 2 ^ n) table refl small (t .1) (t .0) (masked-at-2 table n m) (answer-at-2 table n m) (t .2) in
+    let fit-3 = silent-fit 3 n m 1 16 (9 + 9 * 2 ^ n) table refl small (t .1) (t .0) (masked-at-3 table n m) (answer-at-3 table n m) (t .2) in
+    (λ same. true≢false (sym (fit-2 same) ∙ t .3), λ same. true≢false (sym (fit-3 same) ∙ t .3))
