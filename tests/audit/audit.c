@@ -207,8 +207,8 @@ static uint8_t odd_entry(uint32_t place) {
 }
 
 // Some inputs with choices of masks drawn at random, at n = m = 8. Each byte is a probe: where two numbers' exclusive or leaks, one of their
-// bytes' does.
-static int linear(const char *name, uint32_t method, bool same_code, uint8_t (*entry)(uint32_t place)) {
+// bytes' does. A call that may take another way by its table must take fewer than so many instructions an entry.
+static int linear(const char *name, uint32_t method, bool same_code, uint8_t (*entry)(uint32_t place), size_t pace) {
     struct study study = {name, {method, 8, 8}, {1, 1}, RANDOM_INPUTS, RANDOM_CHOICES, some_input, random_choice, leaking_sums, NULL};
     struct trace trace;
     if (same_code && watches(WIDTHS_PART)) study.way = all_audited;
@@ -216,26 +216,31 @@ static int linear(const char *name, uint32_t method, bool same_code, uint8_t (*e
     if (subject->flags & CLEARS) study.leaking = dependent_probes;
     for (uint32_t i = 0; i < LONGEST; i++) table[i] = entry(i);
     int found = carry_out(&study, &trace);
+    if (found == SILENT && subject->flags & BY_TABLE && watches(PACE_PART) && trace.steps >= pace * LONGEST) {
+        printf("    too many instructions an entry\n");
+        found = UNKNOWN;
+    }
     end_trace(&trace);
     return found;
 }
 
 // The linear cases of the subject, as long as nothing leaks.
 static int audit_large(uint32_t method, bool same_code) {
-    int found = linear("linear", method, same_code, balanced_entry);
+    int found = linear("linear", method, same_code, balanced_entry, 30);
     bool by_table = subject->flags & BY_TABLE && watches(FIT_PART);
-    return found == SILENT && by_table ? linear("linear, 128 values", method, same_code, odd_entry) : found;
+    return found == SILENT && by_table ? linear("linear, 128 values", method, same_code, odd_entry, 120) : found;
 }
 
 // The exhaustive cases of the subject, if `small`; then the linear ones, if `large` and nothing leaks so far.
 static int audit(uint32_t method, bool small, bool large) {
-    enum { FIRST_FIT = 6, FIT_CASES = 3 };
+    enum { FIRST_FIT = 6, FIT_CASES = 5 };
     static const struct {
         uint32_t n, m;
         uint8_t table[8];
     } cases[] = {{1, 1, {1, 0}},       {2, 1, {0, 1, 1, 0}}, {2, 2, {2, 0, 3, 1}},
                  {1, 1, {0, 1}},       {2, 1, {1, 1, 0, 0}}, {2, 2, {0, 1, 3, 2}},
-                 {1, 2, {0, 3}},       {2, 2, {1, 2, 1, 2}}, {2, 3, {5, 6, 0, 3}}, // these three are fit and not balanced
+                 {1, 2, {0, 3}},       {2, 2, {1, 2, 1, 2}}, {2, 3, {5, 6, 0, 3}}, // these and the next two are fit and not balanced
+                 {1, 4, {0, 15}},      {1, 1, {1, 1}},
                  {2, 1, {0, 0, 0, 1}}, // not fit: what leaks is whether the input is 3
                  // Up to n = 2 every fit table is affine, and then two leftovers of a call tell no more than one. This one is not.
                  {3, 1, {0, 0, 0, 1, 0, 1, 1, 1}},

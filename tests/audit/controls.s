@@ -167,10 +167,36 @@ control few_values_widths
     nop
     go_on
 
+# At n = 8, more instructions than a balanced table may cost, and on such a table more than that may.
+control pace
+    cmp $8, %esi
+    jne guarded_bare_call
+    mov $4000, %eax
+1:  dec %eax
+    jnz 1b
+    go_on
+
+control few_values_pace
+    with_few_values
+    cmp $8, %esi
+    jne guarded_bare_call
+    mov $15500, %eax
+1:  dec %eax
+    jnz 1b
+    go_on
+
 # The exclusive or of x0 and r1 where m is above n, as for no balanced table.
 control wide_outputs
     cmp %esi, %edx
     jbe guarded_bare_call
+    mov %ecx, %eax
+    xor %r8d, %eax
+    go_on
+
+# The same where m is 4 or more.
+control widest_outputs
+    cmp $4, %edx
+    jb guarded_bare_call
     mov %ecx, %eax
     xor %r8d, %eax
     go_on

@@ -29,7 +29,7 @@ enum part {
     BESIDE_PART,       // two bytes of one value are a column too
     LATER_PART,        // what the first call leaves as it is and a later one changes
     COPIES_PART,       // copied instructions do what the code does
-    PACE_PART,         // of a screen, few instructions a byte
+    PACE_PART,         // of a screen, few instructions a byte; of a lookup at n = m = 8, few an entry
     READING_PART,      // of a screen, each byte is read once
     PARTS
 };

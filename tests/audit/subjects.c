@@ -31,7 +31,10 @@
 #define TABLE_CONTROLS(each)   \
     each(few_values, 8)        \
     each(few_values_widths, 8) \
-    each(wide_outputs, 8)
+    each(few_values_pace, 8)   \
+    each(pace, 8)              \
+    each(wide_outputs, 8)      \
+    each(widest_outputs, 10)
 
 // Those of frame_controls.s.
 #define FRAME_CONTROLS(each) \
@@ -96,16 +99,16 @@ void baseline_plain_call(void);
 
 const struct subject *subject_named(const char *name) {
     static const struct subject subjects[] = {
-        {"plain", cippazhey_plain_call, 0, 9, BY_TABLE},
+        {"plain", cippazhey_plain_call, 0, 11, BY_TABLE},
         {"logged", cippazhey_logged_call, 0, 2, LOGGED},
         {"guarded", guarded_plain_call, 0, 3, CONTROL | BY_WIDTH},
         {"unguarded", baseline_plain_call, 0, 3, CONTROL | BY_WIDTH},
-        {"inputs", guarded_bare_call, 9, 1, CONTROL}, // it checks no table, so it looks up in one that is not fit
-        {"used", cippazhey_plain_call, 10, 1, USED},
-        {"joined_leftovers", control_joined_leftovers, 10, 1, CONTROL | USED},
+        {"inputs", guarded_bare_call, 11, 1, CONTROL}, // it checks no table, so it looks up in one that is not fit
+        {"used", cippazhey_plain_call, 12, 1, USED},
+        {"joined_leftovers", control_joined_leftovers, 12, 1, CONTROL | USED},
         {"joined_leftovers_affine", control_joined_leftovers, 0, 3, CONTROL | USED},
-        {"single_leftovers", control_single_leftovers, 10, 1, CONTROL | USED},
-        {"early_exit", control_early_exit, 10, 1, CONTROL | USED},
+        {"single_leftovers", control_single_leftovers, 12, 1, CONTROL | USED},
+        {"early_exit", control_early_exit, 12, 1, CONTROL | USED},
         {"clear", cippazhey_clear, 0, 3, CLEARS},
         {"reading_clear", control_reading_clear, 0, 1, CONTROL | CLEARS},
         {"short_clear", control_short_clear, 0, 1, CONTROL | CLEARS},
