@@ -247,13 +247,16 @@ def complaints(folder):
     for right in (reference, edited(reference, *fit_by_periods())):
         if run(folder, right).returncode != 0:
             yield "the reference itself does not pass, or not by periods"
-    for common, groups in ((False, WRONG_CALLS), (True, COMMON_FAULTS)):
+    for common, groups, number in ((False, WRONG_CALLS, 137), (True, COMMON_FAULTS, 39)):
         for group, calls in groups.items():
             for name, (old, new) in calls.items():
                 done = run(folder, edited(reference, old, new), group, common=common)
                 if done.returncode != 1 or "DIFFERS: " not in done.stdout:
                     yield f"{name}, {common=}: {group} does not notice it\n{done.stdout}"
-        print(sum(map(len, groups.values())), "common faults" if common else "wrong calls")
+        tried = sum(map(len, groups.values()))
+        print(tried, "common faults" if common else "wrong calls")
+        if tried != number:
+            yield f"{tried} were tried, and not {number}"
 
 
 end_control(complaints)

@@ -23,19 +23,41 @@ PARTS = {
     "frame": (check_frame,),
 }
 
+# How many comparisons each makes: a group that is left out, or that compares nothing, is missed here alone.
+COMPARISONS = {
+    check_small: 1253,
+    check_print: 31,
+    check_calls: 101385,
+    check_tables: 1296,
+    check_leaks: 226,
+    check_counts: 11222,
+    check_chain: 26324,
+    check_sbox: 7,
+    check_screening: 420,
+    check_frame: 467,
+}
+
+
+def compared(part):
+    for group in part.GROUPS:
+        yield from group()
+
 
 # The name, what the module says and what it should say, of all that differs.
 def differences(module):
     for part in PARTS[module]:
-        for group in part.GROUPS:
-            yield from ((name, got, wanted) for name, got, wanted in group() if got != wanted)
+        yield from ((name, got, wanted) for name, got, wanted in compared(part) if got != wanted)
 
 
 def main():
-    found = [difference for module in PARTS for difference in differences(module)]
+    found = []
+    for part, number in COMPARISONS.items():
+        results = list(compared(part))
+        found += [(name, got, wanted) for name, got, wanted in results if got != wanted]
+        found += [(f"comparisons of {part.__name__}", len(results), number)] if len(results) != number else []
     for name, got, wanted in found:
         print(f"{name}: {got} and not {wanted}")
-    sys.exit(1 if found else 0)
+    sys.exit(1 if found or {part for parts in PARTS.values() for part in parts} != set(COMPARISONS) else 0)
 
 
 if __name__ == "__main__":

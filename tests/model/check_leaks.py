@@ -52,6 +52,9 @@ def leaking():
         else:
             counts = {frozenset(Counter(zip(shown[at], shown[-1])).items()) for shown in (first, *others)}
             yield f"{name} leaks", len(counts) > 1, True
+    # and the search for pairs that differ finds one
+    first, *others = (model.shown_values([0, 0, 0, 1], 2, 2, 1, secret) for secret in range(4))
+    yield "0, 0, 0, 1 found", (13, 33) in differing(first, others[-1]), True
 
 
 GROUPS = (figures, unclosed_figures, leaking)
