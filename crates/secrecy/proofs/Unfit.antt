@@ -1,8 +1,8 @@
 -- A table that is not fit tells something, under both methods: the masked entry of turn 0 beside the answer.
 use mathlib.Core.Path.{_≡_, refl, sym, ap, _∙_}
-use mathlib.Core.Bool.{true, false, cond, true≢false}
+use mathlib.Core.Bool.{true, false, true≢false}
 use mathlib.Core.List.{List, [], _∷_, map}
-use Prim.Native.Nat.{ℕ, zero, suc, _+_, _*_, _-_, _/_, _^_, _≤_, _<_}
+use Prim.Native.Nat.{ℕ, _+_, _*_, _-_, _/_, _^_, _≤_, _<_}
 use native.Mathlib.Nat.{lt-of-lt-of-le, mul-pos, mul-div-cancel, mul-div-cancel-left}
 use native.Mathlib.Omega.{arith}
 use lib.Dec.{lit<}
@@ -10,7 +10,7 @@ use lib.ListN.{length}
 use lib.Pow.{pow-pos, pow-mono, suc-ones}
 use Rattle.bits.specs.Xor.{_⊕_}
 use Rattle.bits.proofs.Xor.{below, zero-r, xors}
-use Rattle.counting.specs.Choice.{over, width, Within}
+use Rattle.counting.specs.Choice.{width, Within}
 use Rattle.counting.proofs.Over.{over-ext}
 use Rattle.refusals.specs.Tests.{any-from}
 use Rattle.table.specs.Balanced.{at, count-of}
@@ -24,7 +24,6 @@ use Rattle.lookup.specs.Case.{Q}
 use Rattle.lookup.specs.Entry.{value-of}
 use Rattle.lookup.specs.Layout.{all-rows}
 use Rattle.lookup.specs.Row.{Row, masked}
-use Rattle.lookup.specs.Method.{Method, class-width}
 use Rattle.lookup.specs.Method2.{head-2, pass-2, end-2}
 use Rattle.lookup.specs.Method3.{head-3, pass-3, end-3}
 use Rattle.lookup.specs.Methods.{found, method-of}

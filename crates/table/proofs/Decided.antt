@@ -1,17 +1,17 @@
 -- The counts of a table's values decide whether it is fit: each difference from the first entry is a period of them just if the table is.
-use mathlib.Core.Path.{_≡_, refl, sym, ap, _∙_}
+use mathlib.Core.Path.{_≡_, refl, sym, _∙_}
 use mathlib.Core.Bool.{Bool, true, false, _||_}
 use mathlib.Core.List.{List}
 use Prim.Native.Nat.{ℕ, _-_, _^_, _≤_, _<_}
 use native.Mathlib.Nat.{le-trans}
 use native.Mathlib.Omega.{arith}
-use borrow.Author.Tests.{eqb-true, eqb-false, eq-eqb, ne-eqb, leb-true, leb-false}
+use borrow.Author.Tests.{eqb-false, eq-eqb, ne-eqb, leb-true, leb-false}
 use lib.Dec.{eqb, leb}
 use lib.ListN.{length, getD}
 use lib.Pow.{pow-mono, pow-pos}
 use Rattle.bits.specs.Xor.{_⊕_}
 use Rattle.bits.proofs.Xor.{below, xors, cancel}
-use Rattle.table.specs.Balanced.{at, count-of, all-below}
+use Rattle.table.specs.Balanced.{at, count-of}
 use Rattle.table.specs.Fit.{fit}
 use Rattle.table.specs.Counts.{Counted, Joined-counts, period, all-periods}
 use Rattle.table.proofs.Balanced.{below as each-below, all-pass, at-below, balanced-made}

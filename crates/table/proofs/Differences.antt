@@ -3,7 +3,7 @@ use mathlib.Core.Path.{_≡_, refl, sym, ap, _∙_}
 use mathlib.Core.Bool.{Bool, true, false, _||_, true≢false}
 use mathlib.Core.List.{List}
 use mathlib.Core.Logic.{inl, inr}
-use Prim.Native.Nat.{ℕ, zero, suc, _+_, _*_, _-_, _^_, _≤_, _<_}
+use Prim.Native.Nat.{ℕ, suc, _+_, _*_, _-_, _^_, _≤_, _<_}
 use native.Mathlib.Nat.{le-trans, le-of-lt, le-of-suc-le-suc, not-suc-le-zero, eq-or-lt-of-le, pow-suc, zero-mul, zero-add}
 use native.Mathlib.Numerals.{add-one}
 use native.Mathlib.Omega.{arith}
@@ -16,7 +16,7 @@ use lib.ListN.{getD}
 use lib.Pow.{pow-mono, pow-pos}
 use Rattle.bits.specs.Xor.{_⊕_}
 use Rattle.bits.proofs.Xor.{below, xors, assoc, zero-r}
-use Rattle.table.specs.Balanced.{at, all-below}
+use Rattle.table.specs.Balanced.{at}
 use Rattle.table.specs.Counts.{period, all-periods, Difference-found}
 use Rattle.table.proofs.Balanced.{below as each-below, all-pass, one-fails}
 

@@ -1,15 +1,12 @@
 -- What is promised of fit tables holds.
-use mathlib.Core.Path.{_≡_, sym, ap, _∙_}
+use mathlib.Core.Path.{_≡_}
 use mathlib.Core.Bool.{true}
 use mathlib.Core.List.{List}
-use Prim.Native.Nat.{ℕ, _*_, _-_, _^_, _≤_, _<_}
+use Prim.Native.Nat.{ℕ, _-_, _^_}
 use native.Mathlib.Nat.{le-trans}
 use borrow.Author.Tests.{leb-true, le-leb}
-use lib.Dec.{leb}
-use lib.ListN.{length}
-use lib.Pow.{pow-pos}
 use Rattle.bits.specs.Xor.{_⊕_}
-use Rattle.table.specs.Balanced.{at, count-of, balanced}
+use Rattle.table.specs.Balanced.{count-of}
 use Rattle.table.specs.Fit.{occurs, fit}
 use Rattle.table.specs.Promises.{Is-fit, Fit-right, Balanced-fit, Balanced-accepted, Full-balanced}
 use Rattle.table.specs.Promises.{Fit-even, Even-fit, Accepted-fit}

@@ -36,7 +36,8 @@ fn joined_counts(counts: &[u16; 256]) -> u16
 }
 
 // Whether each difference of the first entry and another is a period of the counts. One for each highest bit is enough. Let d be one that is
-// a period, and e another with the same highest bit: then e ⊕ d is again a difference of the first entry and another, and has a lower one.
+// a period, and e another with the same highest bit: then e ⊕ d is again a difference of the first entry and another, with a lower highest
+// bit.
 fn all_periods(counts: &[u16; 256], first: u8, output_width: u32) -> bool
     requires { ⌜ («output_width» ≤ 8) × (first < 2 ^ «output_width») ⌝ }
     ensures { λ r. ⌜ r ≡ all-periods (2 ^ «output_width») (now (counts .entry)) first ⌝ }
