@@ -15,6 +15,7 @@ use Rattle.counting.proofs.Over.{over-ext}
 use Rattle.refusals.specs.Tests.{any-from}
 use Rattle.table.specs.Balanced.{at, count-of}
 use Rattle.table.specs.Fit.{fit}
+use Rattle.table.specs.Refusals.{table-refusal}
 use Rattle.table.proofs.Fit.{In, place-of}
 use Rattle.table.proofs.Balanced.{at-below}
 use Rattle.table.proofs.Refusals.{table-unfit}
@@ -26,36 +27,35 @@ use Rattle.lookup.specs.Layout.{all-rows}
 use Rattle.lookup.specs.Row.{Row, masked}
 use Rattle.lookup.specs.Method2.{head-2, pass-2, end-2}
 use Rattle.lookup.specs.Method3.{head-3, pass-3, end-3}
-use Rattle.lookup.specs.Methods.{found, method-of}
+use Rattle.lookup.specs.Method.{class-width}
+use Rattle.lookup.specs.Methods.{among, found, known, method-of}
 use Rattle.lookup.specs.Call.{log-of}
 use Rattle.lookup.proofs.Entry.{value-kept}
 use Rattle.lookup.proofs.Layouts.{at-first-turn, at-end}
-use Rattle.lookup.proofs.Second.{answer-2-is}
-use Rattle.lookup.proofs.Third.{answer-3-is}
+use Rattle.lookup.proofs.Methods.{of-each}
+use Rattle.lookup.proofs.Right.{right}
 use Rattle.secrecy.specs.Count.{single, chosen-case, mask-widths, value-at, shows, count}
-use Rattle.secrecy.specs.Promises.{Unfit-tells}
+use Rattle.secrecy.specs.Promises.{Alike-at, Unfit-tells}
 use Rattle.secrecy.proofs.Observed.{value-of-row}
-use Rattle.secrecy.proofs.Hiding.{hiding-2, hiding-3}
+use Rattle.secrecy.proofs.Hiding.{hiding}
 use Rattle.secrecy.proofs.Shown.{row-value}
 use Rattle.secrecy.proofs.Telling.{both, shown-both, counted-both}
 
 -- the value at a position of the first turn, and at one of the end
-first-value : (c : Case) (table : List ℕ) (head pass end : List Row) (i : ℕ)
-    → method-of (c .method) .layout ≡ record { head = head; passes = pass ∷ []; end = end } → i < length pass
-    → value-at (log-of c table) (length head + i) ≡ value-of (at (map (row-value c table 0) pass) i)
-unfolding value-at log-of Q
-first-value c table head pass end i e h =
-    value-of-row c table (2 ^ c .n) (method-of (c .method) .layout) (length head + i)
-    ∙ rw (e, ← (suc-ones (c .n))) (ap value-of (at-first-turn (row-value c table) (2 ^ c .n - 1) head pass [] end i h))
+module _ (c : Case) (table : List ℕ) (head pass end : List Row)
+    (laid-out : method-of (c .method) .layout ≡ record { head = head; passes = pass ∷ []; end = end }) (i : ℕ) where
+  first-value : i < length pass → value-at (log-of c table) (length head + i) ≡ value-of (at (map (row-value c table 0) pass) i)
+  unfolding value-at log-of Q
+  first-value h =
+      value-of-row c table (2 ^ c .n) (method-of (c .method) .layout) (length head + i)
+      ∙ rw (laid-out, ← (suc-ones (c .n))) (ap value-of (at-first-turn (row-value c table) (2 ^ c .n - 1) head pass [] end i h))
 
-end-value : (c : Case) (table : List ℕ) (i : ℕ)
-    → let l = method-of (c .method) .layout in
-    value-at (log-of c table) (length (l .head) + length (all-rows (l .passes)) * 2 ^ c .n + i)
-    ≡ value-of (at (map (row-value c table 0) (l .end)) i)
-unfolding value-at log-of Q
-end-value c table i =
-    value-of-row c table (2 ^ c .n) (method-of (c .method) .layout) _
-    ∙ ap value-of (at-end (row-value c table) (2 ^ c .n) (method-of (c .method) .layout) i)
+  end-value : value-at (log-of c table) (length head + length (all-rows (pass ∷ [])) * 2 ^ c .n + i)
+      ≡ value-of (at (map (row-value c table 0) end) i)
+  unfolding value-at log-of Q
+  end-value =
+      value-of-row c table (2 ^ c .n) (method-of (c .method) .layout) _
+      ∙ rw laid-out (ap value-of (at-end (row-value c table) (2 ^ c .n) (record { head = head; passes = pass ∷ []; end = end }) i))
 
 -- The two values of a method whose masked entry of turn 0 stands at position p and whose answer stands at q
 module _ (number n m w p q : ℕ) (table : List ℕ) (widths : mask-widths number n m ≡ n ∷ n ∷ n ∷ m ∷ m ∷ w ∷ [])
@@ -109,41 +109,51 @@ module _ (number n m w p q : ℕ) (table : List ℕ) (widths : mask-widths numbe
             let j = place-of table b l in
             rw (← (i .2), ← (j .2)) (placed (i .0) (j .0) (rw long at (i .1)) (rw long at (j .1)))
 
--- where the two stand: masked entry and answer, under each method
-module _ (table : List ℕ) (n m x : ℕ) (c : ℕ → ℕ) where
-  abbrev case-2 : Case
-  case-2 = chosen-case single 2 n m x c
+-- a method with one pass, whose masked entry is row i of it and whose answer is the end's second row
+module _ (number i bit : ℕ) (head pass end : List Row)
+    (laid-out : method-of number .layout ≡ record { head = head; passes = pass ∷ []; end = end }) (inside : i < length pass)
+    (masked-row : (c : Case) (table : List ℕ) → at (map (row-value c table 0) pass) i ≡ masked c table 0)
+    (answer-row : (c : Case) (table : List ℕ) → at (map (row-value c table 0) end) 1 ≡ method-of number .answer c table)
+    (widths : (n m : ℕ) → mask-widths number n m ≡ n ∷ n ∷ n ∷ m ∷ m ∷ class-width n m bit ∷ [])
+    (known-method : known number ≡ true) where
+  abbrev answer-position : (n : ℕ) → ℕ
+  answer-position n = length head + length (all-rows (pass ∷ [])) * 2 ^ n + 1
 
-  abbrev case-3 : Case
-  case-3 = chosen-case single 3 n m x c
+  module _ (table : List ℕ) (n m x : ℕ) (c : ℕ → ℕ) where
+    masked-at : value-at (log-of (chosen-case single number n m x c) table) (length head + i)
+        ≡ value-of (masked (chosen-case single number n m x c) table 0)
+    unfolding chosen-case
+    masked-at =
+        first-value (chosen-case single number n m x c) table head pass end laid-out i inside ∙ ap value-of (masked-row _ table)
 
-  masked-at-2 : value-at (log-of case-2 table) 13 ≡ value-of (masked case-2 table 0)
-  unfolding chosen-case method-of found at
-  masked-at-2 = first-value case-2 table head-2 pass-2 end-2 5 refl (lit< tt)
+    answer-at : Within (mask-widths number n m) c
+        → value-at (log-of (chosen-case single number n m x c) table) (answer-position n)
+        ≡ value-of (masked (chosen-case single number n m x c) table (c 0 ⊕ c 1))
+    unfolding chosen-case mask-widths Q
+    answer-at k =
+        let d = of-each number hiding known-method .drawn n m c k in
+        end-value (chosen-case single number n m x c) table head pass end laid-out 1
+        ∙ ap value-of
+        (answer-row _ table
+        ∙ of-each number right known-method .answers (chosen-case single number n m x c) table (d .r1) (d .r2) (d .r3) (d .b))
 
-  masked-at-3 : value-at (log-of case-3 table) 16 ≡ value-of (masked case-3 table 0)
-  unfolding chosen-case method-of found at
-  masked-at-3 = first-value case-3 table head-3 pass-3 end-3 8 refl (lit< tt)
-
-  answer-at-2 : Within (mask-widths 2 n m) c → value-at (log-of case-2 table) (9 + 6 * 2 ^ n) ≡ value-of (masked case-2 table (c 0 ⊕ c 1))
-  unfolding chosen-case mask-widths method-of found at Q
-  answer-at-2 k =
-      let d = hiding-2 .drawn n m c k in
-      let place : 9 + 6 * 2 ^ n ≡ 8 + 6 * 2 ^ n + 1 = omega arith in
-      rw place (end-value case-2 table 1 ∙ ap value-of (answer-2-is case-2 table (d .r1) (d .r2) (d .r3)))
-
-  answer-at-3 : Within (mask-widths 3 n m) c → value-at (log-of case-3 table) (9 + 9 * 2 ^ n) ≡ value-of (masked case-3 table (c 0 ⊕ c 1))
-  unfolding chosen-case mask-widths method-of found at Q
-  answer-at-3 k =
-      let d = hiding-3 .drawn n m c k in
-      let place : 9 + 9 * 2 ^ n ≡ 8 + 9 * 2 ^ n + 1 = omega arith in
-      rw place (end-value case-3 table 1 ∙ ap value-of (answer-3-is case-3 table (omega (arith, d .b)) (d .r1) (d .r2) (d .r3)))
+  unfit-told : (table : List ℕ) (n m : ℕ) → table-refusal n m table ≡ 7 → Alike-at table number n m (length head + i) (answer-position n) → ⊥
+  unfit-told table n m refused same =
+      let t = table-unfit n m table refused in
+      let small = at-below (2 ^ m) table (pow-pos m) (t .2) in
+      true≢false
+      (sym
+      (silent-fit number n m (class-width n m bit) (length head + i) (answer-position n) table (widths n m) small (t .1) (t .0)
+      (masked-at table n m) (answer-at table n m) (t .2) same)
+      ∙ t .3)
 
 pub unfit-tells : Unfit-tells
-unfolding Unfit-tells mask-widths method-of found
+unfolding Unfit-tells mask-widths method-of found known among at
 unfit-tells table n m refused =
-    let t = table-unfit n m table refused in
-    let small = at-below (2 ^ m) table (pow-pos m) (t .2) in
-    let fit-2 = silent-fit 2 n m 0 13 (9 + 6 * 2 ^ n) table refl small (t .1) (t .0) (masked-at-2 table n m) (answer-at-2 table n m) (t .2) in
-    let fit-3 = silent-fit 3 n m 1 16 (9 + 9 * 2 ^ n) table refl small (t .1) (t .0) (masked-at-3 table n m) (answer-at-3 table n m) (t .2) in
-    (λ same. true≢false (sym (fit-2 same) ∙ t .3), λ same. true≢false (sym (fit-3 same) ∙ t .3))
+    let at-2 : 9 + 6 * 2 ^ n ≡ 8 + 6 * 2 ^ n + 1 = omega arith in
+    let at-3 : 9 + 9 * 2 ^ n ≡ 8 + 9 * 2 ^ n + 1 = omega arith in (
+      rw at-2
+          (unfit-told 2 5 2 head-2 pass-2 end-2 refl (lit< tt) (λ c table. refl) (λ c table. refl) (λ n m. refl) refl table n m refused),
+      rw at-3
+          (unfit-told 3 8 3 head-3 pass-3 end-3 refl (lit< tt) (λ c table. refl) (λ c table. refl) (λ n m. refl) refl table n m refused),
+    )
