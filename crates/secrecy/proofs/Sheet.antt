@@ -58,8 +58,9 @@ by-parts (suc k) (l ∷ ls) p q =
 -- the lines before P6's accepted table, and those behind it
 in-front : map (λ l. l .comes-to) (take 13 sheet) ≡ map (λ l. l .given) (take 13 sheet)
 unfolding sheet layer-refusal layer reply odd-common mapped ones first-of outside any-from at count-of occurs each-value equally-often
-    closed fit table-checks Q masked r-prime scratch-2 answer-2 comparison-table scratch-3 place-3 compared registers-3 answer-3 scratch-after answer among found known method-of log-length
-    scratch-length method-checks mask-checks dirty scratch-checks log-checks box-checks case-checks case-refusal logged-refusal _⊕_
+    closed fit table-checks Q masked r-prime scratch-2 answer-2 comparison-table scratch-3 place-3 compared registers-3 answer-3
+    scratch-after answer among found known method-of log-length scratch-length method-checks mask-checks dirty scratch-checks
+    log-checks box-checks case-checks case-refusal logged-refusal _⊕_
 in-front = refl
 
 behind : map (λ l. l .comes-to) (drop 1 (drop 13 sheet)) ≡ map (λ l. l .given) (drop 1 (drop 13 sheet))
