@@ -73,6 +73,7 @@ CHAIN = {
         ("*map(list, scratches)", "list(scratches[1]), list(scratches[0])"),
         ("*map(list, logs)", "*map(model.clear, logs)"),
         ("*map(list, logs)", "list(logs[0]), model.clear(logs[1])"),
+        ("*map(list, logs)", "list(logs[0]), [entry % 65536 for entry in logs[1]]"),
         ("*map(list, logs)", "list(logs[1]), list(logs[0])"),
         (
             "    if refusal:\n        return refusal, 0, 0, 0, *map(list, scratches)",
@@ -105,6 +106,19 @@ CHAIN = {
         ("scratch, second_scratch, log, second_log", "model.clear(scratch), second_scratch, log, second_log"),
         ("second_scratch, log, second_log", "model.clear(second_scratch), log, second_log"),
         ("second_scratch, log, second_log", "second_scratch, log, log"),
+        (
+            "second_scratch, log, second_log",
+            "second_scratch, [model.kind_of(entry) * 256 + model.value_of(entry) for entry in log], second_log",
+        ),
+        (
+            "second_scratch, log, second_log",
+            "second_scratch, log, [model.kind_of(entry) * 256 + model.value_of(entry) for entry in second_log]",
+        ),
+        (
+            "second_scratch, log, second_log",
+            "second_scratch, log, [model.packed(model.value_of(entry), model.kind_of(entry)) for entry in second_log]",
+        ),
+        ("second_scratch, log, second_log", "second_scratch, [model.value_of(entry) for entry in log], second_log"),
     ],
     "second_choices": [
         ("2: [0]", "2: [0, 1]"),

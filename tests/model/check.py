@@ -27,11 +27,11 @@ PARTS = {
 COMPARISONS = {
     check_small: 1253,
     check_print: 31,
-    check_calls: 101385,
+    check_calls: 120005,
     check_tables: 1296,
     check_leaks: 226,
     check_counts: 11222,
-    check_chain: 26324,
+    check_chain: 46416,
     check_sbox: 7,
     check_screening: 420,
     check_frame: 467,

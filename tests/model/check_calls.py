@@ -9,11 +9,17 @@ from model import Case
 P2 = Case(method=2, n=2, m=2, x0=0, r1=1, r2=2, s1=3, s2=0, r3=2, b=0)
 P3 = P2._replace(method=3, b=1)
 P6 = P2._replace(m=1, s1=1, s2=0)
+TOP = 2**32 - 1
 
 
 def log_length(method, n):
     head, turn, end = KINDS[method]
     return len(head) + len(turn) * 2**n + len(end)
+
+
+# A log to lend: no two entries are equal and none fits 16 bits, so that any change of one shows.
+def lent_log(entries):
+    return [TOP - place for place in range(entries)]
 
 
 # The refusal, the answer and the scratch of a logged call, with buffers that suffice at n = 2 where none are given. Bench calls begin
@@ -96,10 +102,50 @@ def values_3(case, table):
     yield from (b, table[x0 ^ r1 ^ r2] ^ s1 ^ s2)
 
 
-def whole_log(case, table):
+# What each entry of a log says: its kind and its value.
+def said(case, table):
     head, turn, end = KINDS[case.method]
     values = {2: values_2, 3: values_3}[case.method](case, table)
-    return [kind * 256 + value for kind, value in zip(head + turn * 2**case.n + end, values, strict=True)]
+    return list(zip(head + turn * 2**case.n + end, values, strict=True))
+
+
+def whole_log(case, table):
+    return [kind * 65536 + value for kind, value in said(case, table)]
+
+
+# The log of before, when an entry had 16 bits.
+def old_log(case, table):
+    return [kind * 256 + value for kind, value in said(case, table)]
+
+
+# At each position an entry says what the one of before said. That one's value is below 256, so every value still is.
+def says_the_same(name, log, old):
+    yield (name, "kinds"), [entry // 65536 for entry in log], [entry // 256 for entry in old]
+    yield (name, "values"), [entry % 65536 for entry in log], [entry % 256 for entry in old]
+
+
+# Worked by hand: kinds and values up to the largest that are asked for, 29 and 65535, and the largest entry that there can be.
+PACKED = [
+    (0, 0, 0),
+    (1, 0, 65536),
+    (1, 1, 65537),
+    (10, 0, 655360),
+    (15, 255, 983295),
+    (18, 256, 1179904),
+    (29, 65535, 1966079),
+    (65535, 65535, 4294967295),
+]
+
+
+# Today's values are below 256. That an entry holds any of 16 bits shows here alone.
+def packing():
+    for kind, value, entry in PACKED:
+        yield f"entry of {kind} and {value}", model.packed(kind, value), entry
+        yield f"kind and value of {entry}", (model.kind_of(entry), model.value_of(entry)), (kind, value)
+    for kind in range(1, 30):
+        for value in (0, 1, 127, 128, 255, 256, 257, 32767, 32768, 65279, 65280, 65535):
+            entry = model.packed(kind, value)
+            yield f"{kind} and {value} taken apart", (model.kind_of(entry), model.value_of(entry)), (kind, value)
 
 
 # Accepted cases under both methods at small widths, every choice of masks for a secret each: the case, its table and the share S[x] with
@@ -118,9 +164,10 @@ def answers():
     for case, table, share in accepted_cases():
         end = [7] * (6 - 2**case.n)
         lent, log = [0] * 2**case.n + end, whole_log(case, table)
-        refusal, answer, count, scratch, left = model.logged_call(case, table, lent, [7] * 50)
+        refusal, answer, count, scratch, left = model.logged_call(case, table, lent, lent_log(50))
         yield (case, "logged"), (refusal, answer, count), (0, share, len(log))
-        yield (case, "log"), left, log + [7] * (50 - len(log))
+        yield (case, "log"), left, log + lent_log(50)[len(log) :]
+        yield from says_the_same(case, left[:count], old_log(case, table))
         yield (case, "end of the scratch"), scratch[2**case.n :], end
         yield (case, "plain"), model.plain_call(case, table, lent), (0, share, 0, scratch)
         yield (case, "exported"), model.exported_call(case, table, lent), (share, scratch)
@@ -131,7 +178,7 @@ def answers():
 # answers again.
 def repeats():
     for case, table, share in accepted_cases():
-        log = [7] * 50
+        log = lent_log(50)
         first = model.logged_call(case, table, [0] * 2**case.n, log)
         left = first[3]
         clean = case.method == 2 and set(table) == {case.s1 ^ case.s2}
@@ -194,7 +241,7 @@ NEIGHBOURS = [
 # What the calls say of such a call: the first refusal, all else 0, and nothing written.
 def refused(call, refusal):
     *numbers, table, scratch, log_entries = call.values()
-    case, log = Case(*numbers), list(range(log_entries))
+    case, log = Case(*numbers), lent_log(log_entries)
     yield (call, "logged"), model.logged_call(case, table, scratch, log), (refusal, 0, 0, scratch, log)
     if refusal != 14:
         yield (call, "plain"), model.plain_call(case, table, scratch), (refusal, 0, 0, scratch)
@@ -246,15 +293,23 @@ def clearing():
         yield f"{length} counted bytes back to front cleared", model.clear(counted[::-1]), [0] * length
 
 
-# At every pair of widths, what is just inside is accepted.
-def widths():
+# Every pair of widths under both methods, with what is just inside: the case and its table.
+def widest_cases():
     for n in range(1, 9):
         for m in range(1, 9):
             top, table = 2**n - 1, [2**m - 1 - value % 2**m for value in range(2**n)]
             for method in (2, 3):
-                case = Case(method, n, m, top, top, top, 2**m - 1, 2**m - 1, top, method - 2)
-                share = model.plain_call(case, table, [0] * 2**n)
-                yield f"widths {n} and {m}, method {method}", share[:2], (0, table[top])
+                yield Case(method, n, m, top, top, top, 2**m - 1, 2**m - 1, top, method - 2), table
+
+
+# It is accepted, and the log says what it said before.
+def widths():
+    for case, table in widest_cases():
+        name = f"widths {case.n} and {case.m}, method {case.method}"
+        yield name, model.plain_call(case, table, [0] * 2**case.n)[:2], (0, table[-1])
+        _, share, count, _, log = model.logged_call(case, table, [0] * 2**case.n, lent_log(2400))
+        yield f"{name}, logged", (share, log[count:]), (table[-1], lent_log(2400)[log_length(case.method, case.n) :])
+        yield from says_the_same(name, log[:count], old_log(case, table))
 
 
 def counts():
@@ -269,14 +324,26 @@ def counts():
         yield f"values above 1 at {secret}", model.pair_counts(TABLE_A, 2, 2, 2, secret, 0, 33)[3, 2], 64
 
 
+# What is counted is what the entries of the logged calls say, one call for each choice.
+def counted_entries():
+    for method, (n, m, table) in itertools.product((2, 3), ((1, 1, [1, 0]), (1, 2, [0, 3]), (2, 1, [0, 1, 1, 0]))):
+        for secret in range(2**n):
+            calls = (model.logged_call(case, table, [0] * 2**n, lent_log(46)) for case in model.choices(method, n, m, secret))
+            logs = [log[:count] for _, _, count, _, log in calls]
+            shown = [list(column) for column in model.shown_values(table, method, n, m, secret)]
+            yield f"method {method}, {table} at {secret}", shown, [[entry % 65536 for entry in column] for column in zip(*logs, strict=True)]
+
+
 # The quick ones come first.
 GROUPS = (
+    packing,
     lengths,
     clearing,
     neighbours,
     refusals,
     widths,
     counts,
+    counted_entries,
     bench_sheet,
     dirty_bench_calls,
     dirty_places,

@@ -7,7 +7,7 @@ from collections import Counter
 import chain
 import model
 from chain import Second
-from check_calls import P2, P3, faults, fine_call, log_length, whole_log
+from check_calls import P2, P3, TOP, faults, fine_call, lent_log, log_length, old_log, says_the_same, whole_log
 from check_counts import TABLES
 from document import TABLE_A
 from model import Case
@@ -17,12 +17,37 @@ PAIRINGS = [(2, 2), (2, 3), (3, 2), (3, 3)]
 # The tables of the widths that the refusals are tried at: the first's n, the m that is the second's n, and the second's m all differ.
 TABLE_32, TABLE_21 = TABLES[3, 2], TABLES[2, 1]
 ONE_BIT = [[1, 0], [1, 0]]
+# P1's log and the one of a call after it, head, two turns and end, by hand; and both as they were when an entry had 16 bits.
+P1_LOG = [
+    *(655360, 65537, 131072, 196608, 262145, 327681, 393216, 458752),
+    *(524288, 589824, 720896, 786433, 851969, 917504),
+    *(524289, 589825, 720897, 786432, 851968, 917505),
+    *(327681, 983041),
+]
+LATER_LOG = [
+    *(655361, 65536, 131073, 196609, 262145, 327680, 393216, 458753),
+    *(524288, 589825, 720897, 786432, 851969, 917504),
+    *(524289, 589824, 720896, 786433, 851968, 917505),
+    *(327680, 983041),
+]
+OLD_P1_LOG = [
+    *(2560, 257, 512, 768, 1025, 1281, 1536, 1792),
+    *(2048, 2304, 2816, 3073, 3329, 3584),
+    *(2049, 2305, 2817, 3072, 3328, 3585),
+    *(1281, 3841),
+]
+OLD_LATER_LOG = [
+    *(2561, 256, 513, 769, 1025, 1280, 1536, 1793),
+    *(2048, 2305, 2817, 3072, 3329, 3584),
+    *(2049, 2304, 2816, 3073, 3328, 3585),
+    *(1280, 3841),
+]
 
 
-# A chained call on scratches of zeros and logs of nines, with an entry more than each call needs.
+# A chained call on scratches of zeros and logs of entries as large as can be, with an entry more than each call needs.
 def called(first, second, tables):
     scratches = [[0] * (2**call.n + 1) for call in (first, second)]
-    return chain.chained_call(first, second, tables, scratches, [[9] * (log_length(call.method, call.n) + 1) for call in (first, second)])
+    return chain.chained_call(first, second, tables, scratches, [[TOP] * (log_length(call.method, call.n) + 1) for call in (first, second)])
 
 
 # Worked by hand, + for an exclusive or. P1's answer is 1, its output masks are 0 and 1, so the second looks up 1 + 0 + 1 = 0 and finds 1.
@@ -31,9 +56,10 @@ def called(first, second, tables):
 def figures():
     p1 = Case(2, 1, 1, 0, 1, 0, 0, 1, 1, 0)
     after_p1, after_p2 = Second(2, 1, 1, s1=1, s2=1, r3=0, b=0), Second(2, 2, 1, s1=1, s2=0, r3=2, b=0)
-    log = [2560, 257, 512, 768, 1025, 1281, 1536, 1792, 2048, 2304, 2816, 3073, 3329, 3584, 2049, 2305, 2817, 3072, 3328, 3585, 1281, 3841]
-    later = [2561, 256, 513, 769, 1025, 1280, 1536, 1793, 2048, 2305, 2817, 3072, 3329, 3584, 2049, 2304, 2816, 3073, 3328, 3585, 1280]
-    yield "P1 and method 2", called(p1, after_p1, ONE_BIT), (0, 1, 22, 22, [0, 1, 0], [1, 0, 0], log + [9], later + [3841, 9])
+    left = called(p1, after_p1, ONE_BIT)
+    yield "P1 and method 2", left, (0, 1, 22, 22, [0, 1, 0], [1, 0, 0], P1_LOG + [TOP], LATER_LOG + [TOP])
+    yield from says_the_same("P1", left[6][:-1], OLD_P1_LOG)
+    yield from says_the_same("method 2 after P1", left[7][:-1], OLD_LATER_LOG)
     tables = [TABLE_A, TABLE_21]
     yield "P2 and method 2", called(P2, after_p2, tables)[:6], (0, 0, 34, 34, [3, 1, 2, 0, 0], [1, 0, 0, 1, 0])
     yield "P3 and method 2", called(P3, after_p2, tables)[:6], (0, 0, 46, 34, [0, 0, 1, 0, 0], [1, 0, 0, 1, 0])
@@ -76,7 +102,9 @@ def answers():
         name = secret, first, second
         yield (name, "joined"), (refusal, share ^ second.s1 ^ second.s2), (0, tables[1][entry])
         yield (name, "counts"), (count, second_count), (len(logs[0]), len(logs[1]))
-        yield (name, "logs"), (log, second_log), (logs[0] + [9], logs[1] + [9])
+        yield (name, "logs"), (log, second_log), (logs[0] + [TOP], logs[1] + [TOP])
+        yield from says_the_same((name, "first"), log[:-1], old_log(first, tables[0]))
+        yield from says_the_same((name, "second"), second_log[:-1], old_log(case, tables[1]))
         left = [model.plain_call(call, table, [0] * (2**call.n + 1))[3] for call, table in zip((first, case), tables)]
         yield (name, "scratches"), [scratch, second_scratch], left
 
@@ -110,11 +138,11 @@ FAULTS = [
 ]
 
 
-# The arguments that the places make. Logs are counted, so that a write shows.
+# The arguments that the places make.
 def arguments(call):
     *first, table, scratch, log = (value for (at, _), value in call.items() if at == 0)
     *second, second_table, second_scratch, second_log = (value for (at, _), value in call.items() if at == 1)
-    logs = list(range(log)), list(range(second_log))
+    logs = lent_log(log), lent_log(second_log)
     return Case(*first), Second(*second), (table, second_table), (scratch, second_scratch), logs
 
 
@@ -174,6 +202,17 @@ def choices():
             yield f"inputs of methods {methods} at {secret}", {x0 ^ r1 ^ r2 for x0, r1, r2 in zip(*shown[:3])}, {secret}
 
 
+# What is counted is what the entries of both logs say, one chain for each choice.
+def counted_entries():
+    for methods in PAIRINGS:
+        for secret in (0, 1):
+            every = itertools.product(model.choices(methods[0], 1, 1, secret), chain.second_choices(methods[1], 1, 1))
+            logs = (called(first, second, ONE_BIT)[6:] for first, second in every)
+            values = [[entry % 65536 for entry in log[:-1] + second_log[:-1]] for log, second_log in logs]
+            shown = chain.shown_values(methods, (1, 1, 1), ONE_BIT, secret)
+            yield f"entries of methods {methods} at {secret}", list(map(list, shown)), list(map(list, zip(*values, strict=True)))
+
+
 # Widths, tables, inputs and pairings that are counted. The table of three bits is their majority, which is not linear. Fit tables that are
 # not balanced stand in the first place, in the second, and in both.
 COUNTED = [
@@ -223,4 +262,4 @@ def leaks():
 
 
 # The quick ones come first.
-GROUPS = (figures, neighbours, choices, widths, refusals, answers, leaks, counts)
+GROUPS = (figures, neighbours, choices, counted_entries, widths, refusals, answers, leaks, counts)

@@ -2,12 +2,11 @@
 # and what it should say.
 import counts
 import model
-from check_calls import log_length
+from check_calls import TOP, lent_log, log_length
 from count_sheets import P12_PAIR, SAMPLE, probe_sheet
 from counts import ProbePair
 from document import TABLE_A
 
-TOP = 2**32 - 1
 # Fit tables of every pair of widths, balanced where m is at most n.
 TABLES = {
     (1, 1): [1, 0],
@@ -103,7 +102,7 @@ def arguments(method, n, m, table, **others):
 
 def called(call):
     *numbers, table, scratch, log_entries, sheet = call.values()
-    return counts.count_sheet(ProbePair(*numbers), table, scratch, list(range(1, log_entries + 1)), sheet)
+    return counts.count_sheet(ProbePair(*numbers), table, scratch, lent_log(log_entries), sheet)
 
 
 # Faults of such a call in the order of the checks: the refusal, what is faulty and what stands there.
@@ -125,7 +124,7 @@ def faults(method, n, m, table):
 
 
 def refused(call, refusal):
-    wanted = refusal, call["scratch"], list(range(1, call["log"] + 1)), call["sheet"]
+    wanted = refusal, call["scratch"], lent_log(call["log"]), call["sheet"]
     yield f"{call} refused", called(call), wanted
 
 
@@ -160,7 +159,7 @@ def accepted():
             ):
                 call = arguments(method, n, m, table, **changed)
                 refusal, scratch, log, sheet = called(call)
-                tails = call["scratch"][2**n :], list(range(length + 1, call["log"] + 1)), call["sheet"][counted:]
+                tails = call["scratch"][2**n :], lent_log(call["log"])[length:], call["sheet"][counted:]
                 name = f"{method} {n} {m} {changed}"
                 yield f"{name} accepted", (refusal, sum(sheet[:counted])), (0, (method - 1) * 2 ** (3 * n + 2 * m))
                 yield f"{name}, scratch", scratch, [0] * 2**n + tails[0]

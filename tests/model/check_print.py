@@ -1,7 +1,7 @@
 # Holds the model's bench print to the form that is required (docs/REFERENCE.md). Each group yields a name, what the model says and what it
 # should say.
 import model
-from check_calls import P3, whole_log
+from check_calls import P3, said
 from document import SAMPLE_INPUT, SAMPLE_OUTPUT, TABLE_A
 from sheets import SAMPLE, sheet
 
@@ -10,7 +10,7 @@ def sample():
     yield "sample input", SAMPLE, SAMPLE_INPUT
     yield "sample", model.bench(SAMPLE_INPUT), SAMPLE_OUTPUT
     yield "empty input", model.bench(b""), b"   1\n"
-    log = b"".join(b"%4d%4d%4d\n" % (at, entry // 256, entry % 256) for at, entry in enumerate(whole_log(P3, TABLE_A)))
+    log = b"".join(b"%4d%4d%4d\n" % (at, kind, value) for at, (kind, value) in enumerate(said(P3, TABLE_A)))
     yield "P3 printed", model.bench(sheet(P3, TABLE_A)), log + b"   0   2  46\n"
 
 

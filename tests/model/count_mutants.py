@@ -77,11 +77,13 @@ COUNTS = {
         ("buffer[len(written) :]", "buffer"),
         ("buffer[len(written) :]", "buffer[len(written) + 1 :]"),
         ("list(buffer[len(written) :])", "[0] * len(buffer[len(written) :])"),
+        ("list(buffer[len(written) :])", "[number % 65536 for number in buffer[len(written) :]]"),
     ],
     "count_sheet": [
         ("refusal, list(scratch), list(log), list(sheet)", "0, list(scratch), list(log), list(sheet)"),
         ("list(scratch), list(log)", "[0] * len(scratch), list(log)"),
         ("list(log), list(sheet)", "[0] * len(log), list(sheet)"),
+        ("list(log), list(sheet)", "[entry % 65536 for entry in log], list(sheet)"),
         ("list(log), list(sheet)", "list(log), [0] * len(sheet)"),
         ("list(log), list(sheet)", "list(log), list(sheet) if refusal != 17 else [0] * len(sheet)"),
         ("[0] * 2**pair.n", "[0] * 2**pair.m"),
@@ -92,6 +94,8 @@ COUNTS = {
         ("[0] * log_length(pair.method, pair.n)", "[0] * log_length(2, pair.n)"),
         ("[0] * log_length(pair.method, pair.n)", "[0] * len(log)"),
         ("[0] * log_length(pair.method, pair.n)", "[]"),
+        ("[0] * log_length(pair.method, pair.n)", "[entry % 65536 for entry in log[: log_length(pair.method, pair.n)]]"),
+        ("[0] * log_length(pair.method, pair.n)", "[entry // 65536 * 65536 for entry in log[: log_length(pair.method, pair.n)]]"),
         ("in_front(pair_sheet(pair, table), sheet)", "pair_sheet(pair, table)"),
         (
             "in_front(pair_sheet(pair, table), sheet)",

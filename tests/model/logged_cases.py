@@ -13,7 +13,7 @@ import tables
 
 TOP = 2**32 - 1
 # What the program writes into dirty scratch, what it fills the log with, and the most that it can lend.
-DIRTY_BYTE, FILLED_ENTRY = 165, 42405
+DIRTY_BYTE, FILLED_ENTRY = 165, 2779096485
 LONGEST_SCRATCH, LONGEST_LOG = 300, 2400
 # Each comes into a width when it is cut to 8 or 16 bits, or is the largest of its type.
 WIDE_NUMBERS = (256, 258, 2**16, TOP)
@@ -240,11 +240,12 @@ def record(call):
     return struct.pack("<10I5H270s", *call.case, *lengths, call.dirty.start, call.dirty.stop, bytes(call.table))
 
 
-# It depends on every value and on their order.
+# It depends on every value and on their order. The modulus is the largest prime below 2^32: by one below 2^16 a kind
+# could stand for a value.
 def checksum(values):
     total = 1
     for value in values:
-        total = (total * 31 + value) % 65521
+        total = (total * 31 + value) % 4294967291
     return total
 
 

@@ -1,7 +1,7 @@
 # The calls, the logs, the counts and the bench print in plain Python, written from the requirements alone, without looking at the code.
 # docs/REFERENCE.md says the same in words.
 # It shares nothing with the proved code, so that a test which compares the two can find a fault in either.
-# Numbers are integers from 0 on; a table, a scratch buffer and rows are lists of bytes; a log is a list of 16-bit entries.
+# Numbers are integers from 0 on; a table, a scratch buffer and rows are lists of bytes; a log is a list of 32-bit entries.
 import itertools
 import re
 from collections import Counter, namedtuple
@@ -140,6 +140,21 @@ def logged_refusal(case, table, scratch, log):
     return table_refusal(case.method, case.n, case.m, table) or other_refusal(case, scratch, log)
 
 
+# A log entry: its kind in the high 16 bits, its value in the low.
+
+
+def packed(kind, value):
+    return kind * 65536 + value
+
+
+def kind_of(entry):
+    return entry // 65536
+
+
+def value_of(entry):
+    return entry % 65536
+
+
 # The two methods. Each takes an accepted case and hands back the answer, the whole scratch and the log as (kind, value) pairs.
 
 
@@ -187,7 +202,7 @@ def logged_call(case, table, scratch, log):
     if refusal:
         return refusal, 0, 0, list(scratch), list(log)
     answer, scratch, pairs = run(case, table, scratch)
-    entries = [kind * 256 + value for kind, value in pairs]
+    entries = [packed(kind, value) for kind, value in pairs]
     return 0, answer, len(entries), scratch, entries + list(log[len(entries) :])
 
 
@@ -276,5 +291,5 @@ def bench(text):
     refusal, share, count, _, log = logged_call(case, table, [0] * 256, [0] * log_length(3, 8))
     if refusal:
         return print_line(refusal)
-    lines = [print_line(at, log[at] // 256, log[at] % 256) for at in range(count)]
+    lines = [print_line(at, kind_of(log[at]), value_of(log[at])) for at in range(count)]
     return b"".join(lines) + print_line(0, share, count)

@@ -32,7 +32,7 @@ SBOX = {
 # A program's cases, and the functions that its answers go through: each wrong edit of these changes an answer, so no case can go unseen
 # that alone notices one.
 CASES = {
-    "model": (logged_cases, ("is_fit", "table_refusal")),
+    "model": (logged_cases, ("is_fit", "table_refusal", "logged_call")),
     "chain": (chain_cases, ("following", "chain_refusal", "chained_call")),
 }
 

@@ -1,4 +1,4 @@
-// What a lent buffer holds once something was written to it, and the call that clears one. The laws of writing stand in proofs/.
+// What a lent buffer holds once something was written to it, and the calls that clear one. The laws of writing stand in proofs/.
 ghost use mathlib.Core.Path.{_≡_};
 ghost use lib.ListN.{length, replicate};
 
@@ -10,5 +10,16 @@ pub fn clear(buffer: &mut [u8])
     while i < buffer.len() {
         buffer[i] = 0;
         i += 1;
+    }
+}
+
+// The same of a buffer of 32-bit numbers: log entries, or counts.
+pub fn clear_numbers(numbers: &mut [u32])
+    ensures { λ _. ⌜ now (numbers .exit) ≡ replicate (length (now (numbers .entry))) 0 ⌝ }
+{
+    let mut at = 0;
+    while at < numbers.len() {
+        numbers[at] = 0;
+        at += 1;
     }
 }

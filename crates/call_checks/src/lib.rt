@@ -10,7 +10,7 @@ ghost use Rattle.lookup.specs.Refusals.{case-refusal, plain-refusal, logged-ref
 use lookup::Case;
 
 // 2 to 7, 10 to 13, 19 and 14
-pub fn refused_logged(case: Case, table: &[u8], scratch: &[u8], log: &[u16]) -> u32
+pub fn refused_logged(case: Case, table: &[u8], scratch: &[u8], log: &[u32]) -> u32
     ensures { λ r. ⌜ r ≡ logged-refusal case (now (table .entry)) (now (scratch .entry)) (now (log .entry)) ⌝ }
 {
     let refusal = refused_box(case, table);
@@ -53,7 +53,7 @@ pub fn refused_box(case: Case, table: &[u8]) -> u32
 }
 
 // A logged call's other checks: 10 to 13, 19 and 14. The widths have been checked, so it has a `requires`.
-pub fn refused_other(case: Case, scratch: &[u8], log: &[u16]) -> u32
+pub fn refused_other(case: Case, scratch: &[u8], log: &[u32]) -> u32
     requires { ⌜ case .n ≤ 8 ⌝ }
     requires { ⌜ case .m ≤ 8 ⌝ }
     ensures { λ r. ⌜ r ≡ first-of (other-checks case (now (scratch .entry)) (now (log .entry))) ⌝ }

@@ -20,7 +20,7 @@ pub fn logged_call(
     b: u32,
     table: &[u8],
     scratch: &mut [u8],
-    log: &mut [u16],
+    log: &mut [u32],
 ) -> Called
     ensures { λ r. ⌜ r ≡ logged-reply (case-from method n m x0 r1 r2 s1 s2 r3 b) (now (table .entry)) (now (scratch .entry))
         (now (log .entry)) ⌝ }
@@ -86,7 +86,7 @@ pub fn plain_call(
 }
 
 // The same of a case: what `logged_call` is to ten numbers.
-pub fn logged(case: Case, table: &[u8], scratch: &mut [u8], log: &mut [u16]) -> Called
+pub fn logged(case: Case, table: &[u8], scratch: &mut [u8], log: &mut [u32]) -> Called
     ensures { λ r. ⌜ r ≡ logged-reply case (now (table .entry)) (now (scratch .entry)) (now (log .entry)) ⌝ }
     ensures { λ _. ⌜ now (scratch .exit) ≡ logged-scratch case (now (table .entry)) (now (scratch .entry)) (now (log .entry)) ⌝ }
     ensures { λ _. ⌜ now (log .exit) ≡ logged-log case (now (table .entry)) (now (scratch .entry)) (now (log .entry)) ⌝ }
@@ -103,7 +103,7 @@ pub fn logged(case: Case, table: &[u8], scratch: &mut [u8], log: &mut [u16]) -> 
 }
 
 // The run of a logged call that is accepted. Its caller has made the checks, so it has a `requires`.
-pub fn run_accepted(case: Case, table: &[u8], scratch: &mut [u8], log: &mut [u16]) -> Called
+pub fn run_accepted(case: Case, table: &[u8], scratch: &mut [u8], log: &mut [u32]) -> Called
     requires { ⌜ logged-refusal case (now table) (now scratch) (now log) ≡ 0 ⌝ }
     ensures { λ r. ⌜ r ≡ logged-reply case (now (table .entry)) (now (scratch .entry)) (now (log .entry)) ⌝ }
     ensures { λ _. ⌜ now (scratch .exit) ≡ logged-scratch case (now (table .entry)) (now (scratch .entry)) (now (log .entry)) ⌝ }

@@ -37,8 +37,8 @@ pub fn chained_call(
     second_table: &[u8],
     first_scratch: &mut [u8],
     second_scratch: &mut [u8],
-    first_log: &mut [u16],
-    second_log: &mut [u16],
+    first_log: &mut [u32],
+    second_log: &mut [u32],
 ) -> Chained
     ensures { λ r. ⌜ r ≡ chain-reply first second (lent (now («first_table» .entry)) (now («second_table» .entry)) (now («first_scratch» .entry))
         (now («second_scratch» .entry)) (now («first_log» .entry)) (now («second_log» .entry))) ⌝ }
@@ -89,8 +89,8 @@ fn run_both(
     second_table: &[u8],
     first_scratch: &mut [u8],
     second_scratch: &mut [u8],
-    first_log: &mut [u16],
-    second_log: &mut [u16],
+    first_log: &mut [u32],
+    second_log: &mut [u32],
 ) -> Chained
     requires { ⌜ chain-refusal first second (lent (now «first_table») (now «second_table») (now «first_scratch») (now «second_scratch»)
         (now «first_log») (now «second_log»)) ≡ 0 ⌝ }
@@ -129,7 +129,7 @@ fn run_second(
     share: u32,
     table: &[u8],
     scratch: &mut [u8],
-    log: &mut [u16],
+    log: &mut [u32],
 ) -> Called
     requires { ⌜ logged-refusal (second-case first second share) (now table) (now scratch) (now log) ≡ 0 ⌝ }
     ensures { λ r. ⌜ r ≡ logged-reply (second-case first second share) (now (table .entry)) (now (scratch .entry)) (now (log .entry)) ⌝ }
@@ -168,8 +168,8 @@ fn refused(
     second_table: &[u8],
     first_scratch: &[u8],
     second_scratch: &[u8],
-    first_log: &[u16],
-    second_log: &[u16],
+    first_log: &[u32],
+    second_log: &[u32],
 ) -> u32
     ensures { λ r. ⌜ r ≡ chain-refusal first second (lent (now («first_table» .entry)) (now («second_table» .entry)) (now («first_scratch» .entry))
         (now («second_scratch» .entry)) (now («first_log» .entry)) (now («second_log» .entry))) ⌝ }

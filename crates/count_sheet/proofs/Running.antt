@@ -2,12 +2,11 @@
 use mathlib.Core.Path.{_≡_, sym, ap, _∙_}
 use mathlib.Core.Bool.{false}
 use mathlib.Core.List.{List, _++_, append-nil}
-use Prim.Native.Nat.{ℕ, suc, _+_, _*_, _%_, _^_, _≤_, _<_}
-use native.Mathlib.Nat.{le-of-eq, le-of-lt, max-le, suc-mul, mul-le-mul, mul-le-mul-right, mod-lt}
+use Prim.Native.Nat.{ℕ, suc, _+_, _*_, _^_, _≤_, _<_}
+use native.Mathlib.Nat.{le-of-eq, le-of-lt, max-le, suc-mul, mul-le-mul, mul-le-mul-right}
 use native.Mathlib.Omega.{arith}
 use mir.Syntax.{w32, w64}
 use mir.Val.{Fits}
-use lib.Dec.{lit<}
 use lib.ListN.{length, getD, drop, set, replicate, drop-of-length-le, length-replicate}
 use lib.Pow.{pow-mono}
 use lib.Seq.{take-all}
@@ -16,12 +15,12 @@ use Rattle.buffers.specs.Written.{in-front}
 use Rattle.counting.proofs.Numbered.{numbered-within}
 use Rattle.table.specs.Balanced.{at}
 use Rattle.lookup.specs.declared.Case.{Case}
-use Rattle.lookup.specs.Entry.{value-of}
 use Rattle.lookup.specs.Call.{log-of, log-length, scratch-length}
 use Rattle.lookup.specs.Refusals.{dirty, case-refusal, logged-refusal}
 use Rattle.lookup.specs.Promises.{Log-long, Values-small}
 use Rattle.lookup.proofs.Accepted.{not-refused}
 use Rattle.lookup.proofs.Methods.{two-or-three}
+use Rattle.lookup.proofs.Entry.{value-fits}
 use Rattle.lookup.proofs.Promises.{log-long, values-small}
 use Rattle.lookup.proofs.Refused.{zeros-clean}
 use Rattle.calls.specs.Reply.{logged-log}
@@ -73,12 +72,11 @@ module _ (p : ProbePair) (table : List ℕ) (t : Countable p table) (number : �
     second-in = rw (same, h) (t .second)
 
   pub offset-fits : (after : List ℕ) (place : ℕ) → place ≡ place-of p after → Fits w64 (place * 4)
-  unfolding place-of value-at value-of
+  unfolding place-of value-at
   offset-fits after place q =
       let side : 2 ^ value-width p ≤ 8 = pow-mono width-most in
-      let byte : (e : ℕ) → e % 256 < 256 = λ e. mod-lt e (lit< tt) in
-      let row = mul-le-mul (le-of-lt (byte (at after (p .first)))) side in
-      record { fits = omega (arith, q, row, byte (at after (p .second))) }
+      let row = mul-le-mul (le-of-lt (value-fits (at after (p .first)))) side in
+      record { fits = omega (arith, q, row, value-fits (at after (p .second))) }
 
   module _ (case : Case) (e : case ≡ numbered-case p number) where
     -- the call is made on cleared scratch of the length that it needs, so it is accepted

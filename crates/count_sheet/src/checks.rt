@@ -5,7 +5,7 @@ ghost use Rattle.refusals.specs.Checks.{first-of};
 ghost use Rattle.count_sheet.specs.Refusals.{pair-checks, buffer-checks, sheet-checks, count-refusal};
 use crate::ProbePair;
 
-pub fn refused(pair: ProbePair, table: &[u8], scratch: &[u8], log: &[u16], sheet: &[u32]) -> u32
+pub fn refused(pair: ProbePair, table: &[u8], scratch: &[u8], log: &[u32], sheet: &[u32]) -> u32
     ensures { λ r. ⌜ r ≡ count-refusal pair (now (table .entry)) (now (scratch .entry)) (now (log .entry)) (now (sheet .entry)) ⌝ }
 {
     let refusal = refused_pair(pair, table);
@@ -37,7 +37,7 @@ fn refused_pair(pair: ProbePair, table: &[u8]) -> u32
 }
 
 // 13 and 14. The width has been checked, so it has a `requires`.
-fn refused_buffers(pair: ProbePair, scratch: &[u8], log: &[u16]) -> u32
+fn refused_buffers(pair: ProbePair, scratch: &[u8], log: &[u32]) -> u32
     requires { ⌜ pair .n ≤ 8 ⌝ }
     ensures { λ r. ⌜ r ≡ first-of (buffer-checks pair (now (scratch .entry)) (now (log .entry))) ⌝ }
 {

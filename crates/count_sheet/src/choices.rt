@@ -21,7 +21,7 @@ pub fn count_all(
     pair: ProbePair,
     table: &[u8],
     scratch: &mut [u8],
-    log: &mut [u16],
+    log: &mut [u32],
     sheet: &mut [u32],
 )
     requires { ⌜ Countable pair (now table) ⌝ }
@@ -44,7 +44,7 @@ fn count(
     number: u32,
     table: &[u8],
     scratch: &mut [u8],
-    log: &mut [u16],
+    log: &mut [u32],
     sheet: &mut [u32],
 )
     requires { ⌜ Countable pair (now table) ⌝ }
@@ -73,7 +73,7 @@ fn numbered_case(pair: ProbePair, number: u32) -> Case
 }
 
 // Where the pair of values that a log shows is counted.
-fn place_of(pair: ProbePair, log: &[u16]) -> usize
+fn place_of(pair: ProbePair, log: &[u32]) -> usize
     requires { ⌜ value-width pair ≤ 3 ⌝ }
     requires { ⌜ pair .first < length (now log) ⌝ }
     requires { ⌜ pair .second < length (now log) ⌝ }

@@ -27,7 +27,7 @@ pub fn count_sheet(
     pair: ProbePair,
     table: &[u8],
     scratch: &mut [u8],
-    log: &mut [u16],
+    log: &mut [u32],
     sheet: &mut [u32],
 ) -> u32
     ensures { λ r. ⌜ r ≡ count-refusal pair (now (table .entry)) (now (scratch .entry)) (now (log .entry)) (now (sheet .entry)) ⌝ }
@@ -56,7 +56,7 @@ pub fn count_sheet(
 }
 
 // Scratch, log and sheet are as long as is needed, and no longer.
-fn fill(pair: ProbePair, table: &[u8], scratch: &mut [u8], log: &mut [u16], sheet: &mut [u32])
+fn fill(pair: ProbePair, table: &[u8], scratch: &mut [u8], log: &mut [u32], sheet: &mut [u32])
     requires { ⌜ Countable pair (now table) ⌝ }
     requires { ⌜ length (now scratch) ≡ scratch-length (pair .method) (pair .n) ⌝ }
     requires { ⌜ length (now log) ≡ log-length (pair .method) (pair .n) ⌝ }
@@ -65,20 +65,10 @@ fn fill(pair: ProbePair, table: &[u8], scratch: &mut [u8], log: &mut [u16], shee
     ensures { λ _. ⌜ now (scratch .exit) ≡ replicate (length (now (scratch .entry))) 0 ⌝ }
     ensures { λ _. ⌜ now (log .exit) ≡ replicate (length (now (log .entry))) 0 ⌝ }
 {
-    clear(sheet);
+    buffers::clear_numbers(sheet);
     choices::count_all(pair, table, scratch, log, sheet);
     buffers::clear(scratch);
-    log_entries::clear(log);
-}
-
-fn clear(sheet: &mut [u32])
-    ensures { λ _. ⌜ now (sheet .exit) ≡ replicate (length (now (sheet .entry))) 0 ⌝ }
-{
-    let mut at = 0;
-    while at < sheet.len() {
-        sheet[at] = 0;
-        at += 1;
-    }
+    buffers::clear_numbers(log);
 }
 
 // 2^(2k). The widths have been checked, so it has a `requires`.

@@ -34,14 +34,14 @@ pub putting-begins : (log : List ℕ) (position : ℕ) (kinds values : List ℕ)
 putting-begins log position kinds values =
     record { pasted = paste-zero log position (entries kinds values); within = omega arith; long = refl }
 
-pub putting-turns : (before now : List ℕ) (position : ℕ) (kinds values : List ℕ) (i e : ℕ) → length kinds ≡ length values
+pub putting-turns : (before now : List ℕ) (position : ℕ) (kinds values : List ℕ) (i value e : ℕ) → length kinds ≡ length values
     → position + length kinds ≤ length before
-    → i < length kinds → Putting before now position kinds values i → e ≡ entry (getD kinds i 0) (getD values i 0)
+    → i < length kinds → Putting before now position kinds values i → value ≡ getD values i 0 → e ≡ entry (getD kinds i 0) value
     → Putting before (set now (position + i) e) position kinds values (i + 1)
-putting-turns before now position kinds values i e same room h p is =
+putting-turns before now position kinds values i value e same room h p v is =
     record {
       pasted =
-          ap₂ (λ l v. set l (position + i) v) (p .pasted) (is ∙ sym (entries-at kinds values i same h))
+          ap₂ (λ l v. set l (position + i) v) (p .pasted) (is ∙ rw v (sym (entries-at kinds values i same h)))
           ∙ paste-suc before position (entries kinds values) i 0 (omega arith) (omega (arith, entries-long kinds values same))
           ∙ rw add-one;
       within = omega arith;

@@ -19,7 +19,7 @@ pub fn put_refusal(output: &mut [u8], refusal: u32) -> usize
 }
 
 // The lines of a log, then refusal 0, the answer share and the count. Returns the count of bytes.
-pub fn put_answer(output: &mut [u8], log: &[u16], share: u32, count: u32) -> usize
+pub fn put_answer(output: &mut [u8], log: &[u32], share: u32, count: u32) -> usize
     requires { ⌜ (length (now log) ≤ 2400) × (13 * length (now log) + 13 ≤ length (now output)) ⌝ }
     ensures { λ r. ⌜ r ≡ length (answer-lines (now (log .entry)) share count) ⌝ }
     ensures { λ _. ⌜ now (output .exit) ≡ in-front (answer-lines (now (log .entry)) share count) (now (output .entry)) ⌝ }
@@ -31,7 +31,7 @@ pub fn put_answer(output: &mut [u8], log: &[u16], share: u32, count: u32) -> usi
 }
 
 // A line for each entry: its position, counted from the first's, its kind and its value. Positions have room in their columns.
-fn put_entries(output: &mut [u8], log: &[u16], first: u32)
+fn put_entries(output: &mut [u8], log: &[u32], first: u32)
     requires { ⌜ (first + length (now log) ≤ 9999) × (13 * length (now log) ≤ length (now output)) ⌝ }
     ensures { λ _. ⌜ now (output .exit) ≡ written (now (output .entry)) 0 (entry-lines first (now (log .entry))) ⌝ }
 {
@@ -42,7 +42,7 @@ fn put_entries(output: &mut [u8], log: &[u16], first: u32)
     }
 }
 
-fn put_entry(output: &mut [u8], at: usize, position: u32, entry: u16)
+fn put_entry(output: &mut [u8], at: usize, position: u32, entry: u32)
     requires { ⌜ at + 13 ≤ length (now output) ⌝ }
     ensures { λ _. ⌜ now (output .exit) ≡ written (now (output .entry)) at (line-of 4 (position ∷ kind-of entry ∷ value-of entry ∷ [])) ⌝ }
 {

@@ -1,35 +1,55 @@
--- A log entry gives back its kind and its value, and fits its bits.
+-- A log entry gives back its kind and its value, and fits its bits; so did the entry of before.
 use mathlib.Core.Path.{_≡_, refl}
 use mathlib.Core.Bool.{false}
 use mathlib.Core.List.{List}
-use Prim.Native.Nat.{ℕ, _<_}
-use native.Mathlib.Nat.{mod-eq-of-lt, mul-add-mod-self-right}
+use Prim.Native.Nat.{ℕ, _/_, _%_, _<_}
 use native.Mathlib.Omega.{arith}
 use Rattle.refusals.specs.Tests.{any-from}
 use Rattle.refusals.proofs.Tests.{one-below, none-below}
 use Rattle.lookup.specs.Entry.{entry, kind-of, value-of, entry-limit}
+use Rattle.lookup.specs.OldEntry.{old-entry}
 use Rattle.lookup.proofs.Each.{Each, none, more}
 
 -- whatever is packed, its value is taken modulo the value's range
 pub entry-value : (kind value : ℕ) → value-of (entry kind value) ≡ value-of value
 unfolding entry value-of
-entry-value kind value = mul-add-mod-self-right kind 256 value
+entry-value kind value = omega arith
 
 pub value-zero : value-of 0 ≡ 0
 unfolding value-of
 value-zero = refl
 
-pub value-kept : {value : ℕ} → value < 256 → value-of value ≡ value
+pub value-fits : (entry : ℕ) → value-of entry < 65536
 unfolding value-of
-value-kept h = mod-eq-of-lt h
+value-fits e = omega arith
 
-pub entry-kind : {kind value : ℕ} → value < 256 → kind-of (entry kind value) ≡ kind
+pub value-kept : {value : ℕ} → value < 65536 → value-of value ≡ value
+unfolding value-of
+value-kept h = omega arith
+
+pub entry-kind : {kind value : ℕ} → value < 65536 → kind-of (entry kind value) ≡ kind
 unfolding entry kind-of
 entry-kind h = omega arith
 
-pub entry-small : {kind value : ℕ} → kind < 256 → value < 256 → entry kind value < entry-limit
+pub entry-small : {kind value : ℕ} → kind < 65536 → value < 65536 → entry kind value < entry-limit
 unfolding entry entry-limit
 entry-small h k = omega arith
+
+-- a byte has room where sixteen bits are
+pub byte-fits : {number : ℕ} → number < 256 → number < 65536
+byte-fits h = omega arith
+
+pub old-kind : {kind value : ℕ} → value < 256 → old-entry kind value / 256 ≡ kind
+unfolding old-entry
+old-kind h = omega arith
+
+pub old-value : (kind : ℕ) {value : ℕ} → value < 256 → old-entry kind value % 256 ≡ value
+unfolding old-entry
+old-value kind h = omega arith
+
+pub old-small : {kind value : ℕ} → kind < 256 → value < 256 → old-entry kind value < 65536
+unfolding old-entry
+old-small h k = omega arith
 
 pub none-large : (limit : ℕ) {es : List ℕ} → Each (λ e. e < limit) es → any-from limit es ≡ false
 none-large limit none = none-below limit

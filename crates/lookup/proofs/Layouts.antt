@@ -1,5 +1,5 @@
 -- The laws of a layout: its length, what holds of every line, and layouts whose rows show the same.
-use mathlib.Core.Path.{_≡_, refl, ap, ap₂, _∙_}
+use mathlib.Core.Path.{_≡_, refl, sym, ap, ap₂, _∙_}
 use mathlib.Core.List.{List, [], _∷_, _++_, map, map-append, append-assoc}
 use Prim.Native.Nat.{ℕ, zero, suc, _+_, _*_, _<_}
 use native.Mathlib.Omega.{arith}
@@ -50,6 +50,12 @@ module _ {A B : Type 0} (show : ℕ → A → B) where
   unfolding lines
   each-line turns l first middle last =
       each-append (each-append (each-image (show 0) first) (each-passes turns (l .passes) middle)) (each-image (show 0) last)
+
+pub at-map : {A : Type 0} (f : A → ℕ) (d : A) → f d ≡ 0 → (xs : List A) (i : ℕ) → at (map f xs) i ≡ f (getD xs i d)
+unfolding at
+at-map f d e [] i = sym e
+at-map f d e (x ∷ xs) zero = refl
+at-map f d e (x ∷ xs) (suc i) = at-map f d e xs i
 
 -- a function of every line is a function of what every row shows
 module _ {A B C : Type 0} (show : ℕ → A → B) (f : B → C) where

@@ -2,7 +2,7 @@
 use mathlib.Core.Path.{_≡_, refl, sym, ap, _∙_}
 use mathlib.Core.Logic.{_⊎_, inl, inr}
 use mathlib.Core.List.{List, map}
-use Prim.Native.Nat.{ℕ, max, _^_, _<_}
+use Prim.Native.Nat.{ℕ, max, _/_, _%_, _^_, _<_}
 use native.Mathlib.Omega.{arith}
 use lib.ListN.{replicate}
 use lib.Pow.{pow-pos}
@@ -11,7 +11,8 @@ use Rattle.bits.proofs.Xor.{xors, below}
 use Rattle.table.specs.Balanced.{at}
 use Rattle.lookup.specs.declared.Case.{Case}
 use Rattle.lookup.specs.Case.{Q}
-use Rattle.lookup.specs.Entry.{kind-of, value-of, entry-limit}
+use Rattle.lookup.specs.Entry.{entry, kind-of, value-of, entry-limit}
+use Rattle.lookup.specs.OldEntry.{old-entry, old-log}
 use Rattle.lookup.specs.Layout.{lines}
 use Rattle.lookup.specs.Row.{Row, row-entry, masked}
 use Rattle.lookup.specs.Method.{Method}
@@ -19,14 +20,14 @@ use Rattle.lookup.specs.Methods.{found, method-of}
 use Rattle.lookup.specs.Call.{answer, scratch-after, log-of, log-length, scratch-length}
 use Rattle.lookup.specs.Refusals.{case-refusal}
 use Rattle.lookup.specs.Promises.{Answer-right, Answer-small, Answer-kept, Rest-kept, Began-clean, Zeros-taken, Cleared-taken}
-use Rattle.lookup.specs.Promises.{Lengths-right, Log-long, Values-small, Log-read-back}
+use Rattle.lookup.specs.Promises.{Lengths-right, Log-long, Values-small, Log-read-back, Old-and-new}
 use Rattle.lookup.proofs.Each.{Each, each-map, each-at}
 use Rattle.lookup.proofs.Methods.{of-each, method-2-of}
-use Rattle.lookup.proofs.Entry.{entry-kind, entry-value, value-zero, value-kept, entry-small, none-large}
+use Rattle.lookup.proofs.Entry.{entry-kind, entry-value, value-zero, value-kept, entry-small, byte-fits, old-kind, old-value, old-small, none-large}
 use Rattle.lookup.proofs.Accepted.{Taken, accepted}
 use Rattle.lookup.proofs.Refused.{Clean, zeros-clean, zeros-before, cleared, log-not-refused, logged-plain, plain-by-case, logged-by-plain}
 use Rattle.lookup.proofs.Second.{byte-r3}
-use Rattle.lookup.proofs.Layouts.{lines-long, each-line, lines-map, lines-agree}
+use Rattle.lookup.proofs.Layouts.{lines-long, each-line, at-map, lines-map, lines-agree}
 use Rattle.lookup.proofs.Right.{Small, value-byte, Right, right}
 
 -- what is proved of the method that was taken
@@ -85,46 +86,84 @@ pub lengths-right : Lengths-right
 unfolding Lengths-right log-length scratch-length method-of found
 lengths-right n = (omega arith, omega arith, refl, refl)
 
+-- the log, its entries packed in some way
+abbrev packed-log : (pack : ℕ → ℕ → ℕ) → Case → (table : List ℕ) → List ℕ
+packed-log pack c table = lines (λ a r. pack (r .kind) (r .value c table a)) (Q c) (method-of (c .method) .layout)
+
 -- what holds of the entry of every small row holds of every entry
-each-entry : {P : ℕ → Type 0} (table : List ℕ) (c : Case) → Taken c table → ((a : ℕ) (r : Row) → Small c table a r → P (row-entry c table a r))
-    → Each P (log-of c table)
-unfolding log-of Q
-each-entry table c taken h =
+each-entry : {P : ℕ → Type 0} (pack : ℕ → ℕ → ℕ) (table : List ℕ) (c : Case) → Taken c table
+    → ((a : ℕ) (r : Row) → Small c table a r → P (pack (r .kind) (r .value c table a)))
+    → Each P (packed-log pack c table)
+each-entry pack table c taken h =
     let small = taken-right c table taken in
-    each-line (row-entry c table) (2 ^ c .n) (method-of (c .method) .layout) (each-map (h 0) (small .head c table (taken .1)))
+    each-line (λ a r. pack (r .kind) (r .value c table a)) (Q c) (method-of (c .method) .layout)
+    (each-map (h 0) (small .head c table (taken .1)))
     (λ a l. each-map (h a) (small .passes c table (taken .1) a l)) (each-map (h 0) (small .end c table (taken .1)))
 
 pub log-long : Log-long
 unfolding Log-long log-of log-length Q
 log-long table c e =
     let taken = accepted c table e in (
-      lines-long (row-entry c table) (2 ^ c .n) (method-of (c .method) .layout),
-      none-large entry-limit (each-entry table c taken (λ a r s. entry-small (s .kind) (value-byte (taken .1) s))),
+      lines-long (row-entry c table) (Q c) (method-of (c .method) .layout),
+      none-large entry-limit (each-entry entry table c taken (λ a r s. entry-small (byte-fits (s .kind)) (byte-fits (value-byte (taken .1) s)))),
     )
 
 pub values-small : Values-small
-unfolding Values-small at
+unfolding Values-small log-of at
 values-small table c e i =
     let taken = accepted c table e in
     each-at {P = λ v. value-of v < 2 ^ max (c .n) (c .m)} 0 i (rw value-zero (pow-pos _))
-    (each-entry table c taken (λ a r s. rw (entry-value (r .kind) (r .value c table a), value-kept (value-byte (taken .1) s)) (s .value)))
+    (each-entry entry table c taken
+    (λ a r s. rw (entry-value (r .kind) (r .value c table a), value-kept (byte-fits (value-byte (taken .1) s))) (s .value)))
 
 -- one reading of every entry: what it gives of a small row is what the row has
-read-back : (read : ℕ → ℕ) (wanted : ℕ → Row → ℕ) (table : List ℕ) (c : Case) → case-refusal c table ≡ 0
-    → ((a : ℕ) (r : Row) → Small c table a r → read (row-entry c table a r) ≡ wanted a r)
-    → map read (log-of c table) ≡ lines wanted (Q c) (method-of (c .method) .layout)
-unfolding log-of Q
-read-back read wanted table c e h =
-    let taken = accepted c table e in
+read-back : (pack : ℕ → ℕ → ℕ) (read : ℕ → ℕ) (wanted : ℕ → Row → ℕ) (table : List ℕ) (c : Case) → Taken c table
+    → ((a : ℕ) (r : Row) → Small c table a r → read (pack (r .kind) (r .value c table a)) ≡ wanted a r)
+    → map read (packed-log pack c table) ≡ lines wanted (Q c) (method-of (c .method) .layout)
+read-back pack read wanted table c taken h =
     let small = taken-right c table taken in
     let layout = method-of (c .method) .layout in
-    lines-map (row-entry c table) read (2 ^ c .n) layout
-    ∙ lines-agree (λ a r. read (row-entry c table a r)) wanted (2 ^ c .n) layout (each-map (h 0) (small .head c table (taken .1)))
+    let show : ℕ → Row → ℕ = λ a r. pack (r .kind) (r .value c table a) in
+    lines-map show read (Q c) layout
+    ∙ lines-agree (λ a r. read (show a r)) wanted (Q c) layout (each-map (h 0) (small .head c table (taken .1)))
     (λ a l. each-map (h a) (small .passes c table (taken .1) a l)) (each-map (h 0) (small .end c table (taken .1)))
 
 pub log-read-back : Log-read-back
-unfolding Log-read-back
-log-read-back table c e = (
-  read-back kind-of (λ a r. r .kind) table c e (λ a r s. entry-kind (value-byte (accepted c table e .1) s)),
-  read-back value-of (λ a r. r .value c table a) table c e (λ a r s. entry-value _ _ ∙ value-kept (value-byte (accepted c table e .1) s)),
-)
+unfolding Log-read-back log-of
+log-read-back table c e =
+    let taken = accepted c table e in (
+      read-back entry kind-of (λ a r. r .kind) table c taken (λ a r s. entry-kind (byte-fits (value-byte (taken .1) s))),
+      read-back entry value-of (λ a r. r .value c table a) table c taken
+      (λ a r s. entry-value _ _ ∙ value-kept (byte-fits (value-byte (taken .1) s))),
+    )
+
+-- two ways of packing and reading that give the same of every small row do so at every position
+read-alike : (new old : ℕ → ℕ → ℕ) (read-new read-old : ℕ → ℕ) → read-new 0 ≡ 0 → read-old 0 ≡ 0 → (table : List ℕ) (c : Case) → Taken c table
+    → ((a : ℕ) (r : Row) → Small c table a r
+    → read-new (new (r .kind) (r .value c table a)) ≡ read-old (old (r .kind) (r .value c table a)))
+    → (i : ℕ) → read-new (at (packed-log new c table) i) ≡ read-old (at (packed-log old c table) i)
+unfolding at
+read-alike new old read-new read-old z o table c taken h i =
+    sym (at-map read-new 0 z (packed-log new c table) i)
+    ∙ ap (λ ls. at ls i)
+    (read-back new read-new (λ a r. read-old (old (r .kind) (r .value c table a))) table c taken h
+    ∙ sym (lines-map (λ a r. old (r .kind) (r .value c table a)) read-old (Q c) (method-of (c .method) .layout)))
+    ∙ at-map read-old 0 o (packed-log old c table) i
+
+pub old-and-new : Old-and-new
+unfolding Old-and-new log-of old-log kind-of value-of at
+old-and-new table c e =
+    let taken = accepted c table e in
+    let byte : (a : ℕ) (r : Row) → Small c table a r → r .value c table a < 256 = λ a r s. value-byte (taken .1) s in
+    let layout = method-of (c .method) .layout in (
+      lines-long (row-entry c table) (Q c) layout ∙ sym (lines-long (λ a r. old-entry (r .kind) (r .value c table a)) (Q c) layout),
+      none-large 65536 (each-entry old-entry table c taken (λ a r s. old-small (s .kind) (byte a r s))),
+      λ i. (
+        read-alike entry old-entry (λ e. e / 65536) (λ e. e / 256) refl refl table c taken
+        (λ a r s. entry-kind (byte-fits (byte a r s)) ∙ sym (old-kind (byte a r s))) i,
+        read-alike entry old-entry (λ e. e % 65536) (λ e. e % 256) refl refl table c taken
+        (λ a r s. entry-value (r .kind) _ ∙ value-kept (byte-fits (byte a r s)) ∙ sym (old-value (r .kind) (byte a r s))) i,
+        each-at {P = λ v. v % 65536 < 256} 0 i (omega arith)
+        (each-entry entry table c taken (λ a r s. rw (entry-value (r .kind) _, value-kept (byte-fits (byte a r s))) (byte a r s))),
+      ),
+    )

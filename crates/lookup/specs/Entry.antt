@@ -1,15 +1,15 @@
--- A log entry is a 16-bit number: the high eight bits are the kind, the low eight the value. Nothing else says how the two are packed.
+-- A log entry is a 32-bit number: the high sixteen bits are the kind, the low sixteen the value. Nothing else says how the two are packed.
 use Prim.Native.Nat.{ℕ, _+_, _*_, _/_, _%_}
 
 unfoldable pub entry : (kind value : ℕ) → ℕ
-entry kind value = kind * 256 + value
+entry kind value = kind * 65536 + value
 
 unfoldable pub kind-of : (entry : ℕ) → ℕ
-kind-of e = e / 256
+kind-of e = e / 65536
 
 unfoldable pub value-of : (entry : ℕ) → ℕ
-value-of e = e % 256
+value-of e = e % 65536
 
 -- what an entry is below
 unfoldable pub entry-limit : ℕ
-entry-limit = 65536
+entry-limit = 4294967296

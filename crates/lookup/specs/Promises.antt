@@ -3,7 +3,7 @@ use mathlib.Core.Path.{_≡_}
 use mathlib.Core.Logic.{_⊎_}
 use mathlib.Core.Bool.{false}
 use mathlib.Core.List.{List, map}
-use Prim.Native.Nat.{ℕ, max, _+_, _*_, _^_, _≤_, _<_}
+use Prim.Native.Nat.{ℕ, max, _+_, _*_, _/_, _%_, _^_, _≤_, _<_}
 use lib.ListN.{length, take, drop, replicate}
 use Rattle.bits.specs.Xor.{_⊕_}
 use Rattle.refusals.specs.Tests.{any-from}
@@ -11,6 +11,7 @@ use Rattle.table.specs.Balanced.{at}
 use Rattle.lookup.specs.declared.Case.{Case}
 use Rattle.lookup.specs.Case.{Q}
 use Rattle.lookup.specs.Entry.{kind-of, value-of, entry-limit}
+use Rattle.lookup.specs.OldEntry.{old-log}
 use Rattle.lookup.specs.Layout.{lines}
 use Rattle.lookup.specs.Row.{Row}
 use Rattle.lookup.specs.Methods.{method-of}
@@ -64,7 +65,7 @@ Lengths-right =
     (n : ℕ) → (log-length 2 n ≡ 10 + 6 * 2 ^ n) × (log-length 3 n ≡ 10 + 9 * 2 ^ n)
     × (scratch-length 2 n ≡ 2 ^ n) × (scratch-length 3 n ≡ 2 ^ n)
 
--- the log has its length, and each entry fits 16 bits
+-- the log has its length, and each entry fits 32 bits
 unfoldable pub Log-long : Type 0
 Log-long =
     (table : List ℕ) (c : Case) → case-refusal c table ≡ 0 →
@@ -81,3 +82,11 @@ Log-read-back =
     (table : List ℕ) (c : Case) → case-refusal c table ≡ 0 →
     (map kind-of (log-of c table) ≡ lines (λ a r. r .kind) (Q c) (method-of (c .method) .layout))
     × (map value-of (log-of c table) ≡ lines (λ a r. r .value c table a) (Q c) (method-of (c .method) .layout))
+
+-- each entry says what the 16-bit entry of before said, at the same position: the same kind and the same value, which is below 256
+unfoldable pub Old-and-new : Type 0
+Old-and-new =
+    (table : List ℕ) (c : Case) → case-refusal c table ≡ 0 →
+    (length (log-of c table) ≡ length (old-log c table)) × (any-from 65536 (old-log c table) ≡ false)
+    × ((i : ℕ) → (at (log-of c table) i / 65536 ≡ at (old-log c table) i / 256) × (at (log-of c table) i % 65536 ≡ at (old-log c table) i % 256)
+    × (at (log-of c table) i % 65536 < 256))

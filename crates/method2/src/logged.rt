@@ -14,7 +14,7 @@ use crate::parts;
 use lookup::Case;
 
 // The calls have checked the case and measured the buffers, so it has a `requires`, and so have its parts.
-pub fn run(case: Case, table: &[u8], scratch: &mut [u8], log: &mut [u16]) -> u8
+pub fn run(case: Case, table: &[u8], scratch: &mut [u8], log: &mut [u32]) -> u8
     requires { ⌜ Bounded case ⌝ }
     requires { ⌜ length (now table) ≡ 2 ^ case .n ⌝ }
     requires { ⌜ 2 ^ case .n ≤ length (now scratch) ⌝ }
@@ -29,7 +29,7 @@ pub fn run(case: Case, table: &[u8], scratch: &mut [u8], log: &mut [u16]) -> u8
     put_last(case, scratch, log)
 }
 
-fn put_first(case: Case, log: &mut [u16])
+fn put_first(case: Case, log: &mut [u32])
     requires { ⌜ Bounded case ⌝ }
     requires { ⌜ length head-2 ≤ length (now log) ⌝ }
     ensures { λ _. ⌜ now (log .exit) ≡ written (now (log .entry)) 0 (entries (kinds head-2) (Row·values case [] 0 head-2)) ⌝ }
@@ -38,7 +38,7 @@ fn put_first(case: Case, log: &mut [u16])
 }
 
 // The answer is read from the filled scratch.
-fn put_last(case: Case, scratch: &[u8], log: &mut [u16]) -> u8
+fn put_last(case: Case, scratch: &[u8], log: &mut [u32]) -> u8
     requires { ⌜ Bounded case ⌝ }
     requires { ⌜ 2 ^ case .n ≤ length (now scratch) ⌝ }
     requires { ⌜ layout-size (2 ^ case .n) (method-2 .layout) ≤ length (now log) ⌝ }
@@ -53,7 +53,7 @@ fn put_last(case: Case, scratch: &[u8], log: &mut [u16]) -> u8
     answer
 }
 
-fn fill(case: Case, table: &[u8], scratch: &mut [u8], log: &mut [u16])
+fn fill(case: Case, table: &[u8], scratch: &mut [u8], log: &mut [u32])
     requires { ⌜ Bounded case ⌝ }
     requires { ⌜ length (now table) ≡ 2 ^ case .n ⌝ }
     requires { ⌜ 2 ^ case .n ≤ length (now scratch) ⌝ }

@@ -14,7 +14,7 @@ use crate::parts;
 use lookup::Case;
 
 // The calls have checked the case and measured the buffers, so it has a `requires`, and so have its parts.
-pub fn run(case: Case, table: &[u8], scratch: &mut [u8], log: &mut [u16]) -> u8
+pub fn run(case: Case, table: &[u8], scratch: &mut [u8], log: &mut [u32]) -> u8
     requires { ⌜ Bounded case ⌝ }
     requires { ⌜ length (now table) ≡ 2 ^ case .n ⌝ }
     requires { ⌜ 2 ^ case .n ≤ length (now scratch) ⌝ }
@@ -31,7 +31,7 @@ pub fn run(case: Case, table: &[u8], scratch: &mut [u8], log: &mut [u16]) -> u8
     put_last(case, &registers, log)
 }
 
-fn put_first(case: Case, log: &mut [u16])
+fn put_first(case: Case, log: &mut [u32])
     requires { ⌜ Bounded case ⌝ }
     requires { ⌜ length head-3 ≤ length (now log) ⌝ }
     ensures { λ _. ⌜ now (log .exit) ≡ written (now (log .entry)) 0 (entries (kinds head-3) (Row·values case [] 0 head-3)) ⌝ }
@@ -40,7 +40,7 @@ fn put_first(case: Case, log: &mut [u16])
 }
 
 // The answer is read from register b.
-fn put_last(case: Case, registers: &[u8; 2], log: &mut [u16]) -> u8
+fn put_last(case: Case, registers: &[u8; 2], log: &mut [u32]) -> u8
     requires { ⌜ Bounded case ⌝ }
     requires { ⌜ layout-size (2 ^ case .n) (method-3 .layout) ≤ length (now log) ⌝ }
     ensures { λ r. ⌜ r ≡ getD (now (registers .entry)) (case .b) 0 ⌝ }
@@ -54,7 +54,7 @@ fn put_last(case: Case, registers: &[u8; 2], log: &mut [u16]) -> u8
     answer
 }
 
-fn select(case: Case, table: &[u8], scratch: &[u8], registers: &mut [u8; 2], log: &mut [u16])
+fn select(case: Case, table: &[u8], scratch: &[u8], registers: &mut [u8; 2], log: &mut [u32])
     requires { ⌜ Bounded case ⌝ }
     requires { ⌜ length (now table) ≡ 2 ^ case .n ⌝ }
     requires { ⌜ take (Q case) (now scratch) ≡ comparison-table case ⌝ }

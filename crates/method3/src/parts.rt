@@ -23,21 +23,21 @@ pub fn log_length(turns: u16) -> usize
     HEAD.len() + LOOP.len() * turns as usize + END.len()
 }
 
-pub fn put_head(log: &mut [u16], values: [u8; 8])
+pub fn put_head(log: &mut [u32], values: [u8; 8])
     requires { ⌜ length head-3 ≤ length (now log) ⌝ }
     ensures { λ _. ⌜ now (log .exit) ≡ written (now (log .entry)) 0 (entries (kinds head-3) values) ⌝ }
 {
     log_entries::put(log, 0, &HEAD, &values);
 }
 
-pub fn put_turn(log: &mut [u16], a: u16, values: [u8; 9])
+pub fn put_turn(log: &mut [u32], a: u16, values: [u8; 9])
     requires { ⌜ length head-3 + length pass-3 * (a + 1) ≤ length (now log) ⌝ }
     ensures { λ _. ⌜ now (log .exit) ≡ written (now (log .entry)) (length head-3 + length pass-3 * a) (entries (kinds pass-3) values) ⌝ }
 {
     log_entries::put(log, HEAD.len() + LOOP.len() * a as usize, &LOOP, &values);
 }
 
-pub fn put_end(log: &mut [u16], turns: u16, values: [u8; 2])
+pub fn put_end(log: &mut [u32], turns: u16, values: [u8; 2])
     requires { ⌜ layout-size turns (method-3 .layout) ≤ length (now log) ⌝ }
     ensures { λ _. ⌜ now (log .exit) ≡ written (now (log .entry)) (length head-3 + length pass-3 * turns) (entries (kinds end-3) values) ⌝ }
 {

@@ -78,7 +78,7 @@ pub fn mask_widths(method: u32, n: u32, m: u32) -> [u32; 6]
 }
 
 // The method's run. The call has checked the case and measured the buffers, so these have a `requires`.
-pub fn run_logged(case: Case, table: &[u8], scratch: &mut [u8], log: &mut [u16]) -> u8
+pub fn run_logged(case: Case, table: &[u8], scratch: &mut [u8], log: &mut [u32]) -> u8
     requires { ⌜ Methods·known (case .method) ≡ true ⌝ }
     requires { ⌜ Bounded case ⌝ }
     requires { ⌜ length (now table) ≡ 2 ^ case .n ⌝ }

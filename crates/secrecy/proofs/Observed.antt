@@ -23,17 +23,11 @@ use Rattle.lookup.specs.Methods.{method-of}
 use Rattle.lookup.specs.Call.{log-of}
 use Rattle.lookup.proofs.Each.{each-of}
 use Rattle.lookup.proofs.Entry.{entry-value, value-zero}
-use Rattle.lookup.proofs.Layouts.{lines-map, lines-agree, Same-rows, lines-same}
+use Rattle.lookup.proofs.Layouts.{at-map, lines-map, lines-agree, Same-rows, lines-same}
 use Rattle.secrecy.specs.Count.{single, chosen-case, mask-widths, value-at, shows, count}
 use Rattle.secrecy.specs.Expressions.{Shown, nothing, system, setting, secrets}
 use Rattle.secrecy.proofs.Fine.{at-turn, line}
 use Rattle.secrecy.proofs.Shown.{row-value, expression-value}
-
-at-map : {A : Type 0} (f : A → ℕ) (d : A) → f d ≡ 0 → (xs : List A) (i : ℕ) → at (map f xs) i ≡ f (getD xs i d)
-unfolding at
-at-map f d e [] i = sym e
-at-map f d e (x ∷ xs) zero = refl
-at-map f d e (x ∷ xs) (suc i) = at-map f d e xs i
 
 -- the value of an entry is its row's
 pub value-of-row : (c : Case) (table : List ℕ) (turns : ℕ) (l : Layout Row) (i : ℕ)

@@ -30,7 +30,7 @@ use Rattle.lookup.specs.Method3.{head-3, pass-3, end-3}
 use Rattle.lookup.specs.Method.{class-width}
 use Rattle.lookup.specs.Methods.{among, found, known, method-of}
 use Rattle.lookup.specs.Call.{log-of}
-use Rattle.lookup.proofs.Entry.{value-kept}
+use Rattle.lookup.proofs.Entry.{value-kept, byte-fits}
 use Rattle.lookup.proofs.Layouts.{at-first-turn, at-end}
 use Rattle.lookup.proofs.Methods.{of-each}
 use Rattle.lookup.proofs.Right.{right}
@@ -67,7 +67,7 @@ module _ (number n m w p q : ℕ) (table : List ℕ) (widths : mask-widths numbe
       (answer-at : (x : ℕ) (c : ℕ → ℕ) → Within (mask-widths number n m) c
       → value-at (log-of (case x c) table) q ≡ value-of (masked (case x c) table (c 0 ⊕ c 1))) where
     byte : (z s s′ : ℕ) → s < 2 ^ m → s′ < 2 ^ m → value-of (at table z ⊕ s ⊕ s′) ≡ at table z ⊕ s ⊕ s′
-    byte z s s′ h k = value-kept (lt-of-lt-of-le (below m (below m (small z) h) k) (pow-mono narrow))
+    byte z s s′ h k = value-kept (byte-fits (lt-of-lt-of-le (below m (below m (small z) h) k) (pow-mono narrow)))
 
     counted : (x u : ℕ) → x < 2 ^ n
         → count table number n m x p q u 0 ≡ 2 ^ n * (count-of (u ⊕ at table x) table * (2 ^ n * (2 ^ m * 2 ^ w)))

@@ -26,7 +26,7 @@ fn reply(malformed: bool, case: Case, table: &[u8], output: &mut [u8; 32768]) ->
         (now (output .entry)) ⌝ }
 {
     let mut scratch = [0u8; 256];
-    let mut log = [0u16; 2400];
+    let mut log = [0u32; 2400];
     let called = calls::logged(case, table, &mut scratch, &mut log);
     let refusal = first_refusal(malformed, called.refusal);
     if refusal != 0 {

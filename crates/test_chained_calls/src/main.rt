@@ -32,13 +32,13 @@ fn print_buffers(
     second: &[u8],
     first_scratch: &[u8],
     second_scratch: &[u8],
-    first_log: &[u16],
-    second_log: &[u16],
+    first_log: &[u32],
+    second_log: &[u32],
 ) {
     test_records::print_bytes(test_lookup_records::whole(first), first_scratch);
     test_records::print_bytes(test_lookup_records::whole(second), second_scratch);
-    test_records::print_entries(test_lookup_records::whole(first), first_log);
-    test_records::print_entries(test_lookup_records::whole(second), second_log);
+    test_records::print_numbers(test_lookup_records::whole(first), first_log);
+    test_records::print_numbers(test_lookup_records::whole(second), second_log);
     test_records::end_line();
 }
 
@@ -48,8 +48,8 @@ fn print_call(
     second: &[u8],
     first_scratch: &mut [u8],
     second_scratch: &mut [u8],
-    first_log: &mut [u16],
-    second_log: &mut [u16],
+    first_log: &mut [u32],
+    second_log: &mut [u32],
 ) {
     let chained = chain::chained_call(
         test_lookup_records::case(first),
@@ -78,8 +78,8 @@ fn prepare_and_print(
     second: &[u8],
     first_scratch: &mut [u8],
     second_scratch: &mut [u8],
-    first_log: &mut [u16],
-    second_log: &mut [u16],
+    first_log: &mut [u32],
+    second_log: &mut [u32],
 ) {
     test_lookup_records::prepare(first, first_scratch);
     test_lookup_records::prepare(second, second_scratch);
@@ -97,8 +97,8 @@ fn prepare_and_print(
 fn answer(first: &[u8], second: &[u8]) {
     let mut first_scratch = [90u8; 300];
     let mut second_scratch = [90u8; 300];
-    let mut first_log = [42405u16; 2400];
-    let mut second_log = [42405u16; 2400];
+    let mut first_log = [2779096485u32; 2400];
+    let mut second_log = [2779096485u32; 2400];
     let first_bytes = test_lookup_records::scratch_length(first);
     let second_bytes = test_lookup_records::scratch_length(second);
     let first_entries = test_lookup_records::log_length(first);

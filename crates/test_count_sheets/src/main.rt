@@ -16,21 +16,21 @@ fn pair(record: &[u8]) -> ProbePair {
 }
 
 // Makes a record's call on the buffers lent, and prints its line.
-fn print_call(record: &[u8], scratch: &mut [u8], log: &mut [u16], sheet: &mut [u32]) {
+fn print_call(record: &[u8], scratch: &mut [u8], log: &mut [u32], sheet: &mut [u32]) {
     let table = test_records::part(record, 32, test_records::length(record, 24));
     let refusal = count_sheet::count_sheet(pair(record), table, scratch, log, sheet);
     let whole = test_records::number(record, 4) <= 1;
     test_records::print_first(refusal);
     test_records::print_bytes(whole, scratch);
-    test_records::print_entries(whole, log);
-    test_records::print_numbers(sheet);
+    test_records::print_numbers(whole, log);
+    test_records::print_numbers(true, sheet);
     test_records::end_line();
 }
 
 // Lends filled buffers of the record's lengths, so that what a call clears, what it overwrites and what it leaves can all be seen.
 fn answer(record: &[u8]) {
     let mut scratch = [165u8; 300];
-    let mut log = [42405u16; 2400];
+    let mut log = [2779096485u32; 2400];
     let mut sheet = [4042322160u32; 100];
     let bytes = test_records::least(test_records::length(record, 26), 300);
     let entries = test_records::least(test_records::length(record, 28), 2400);

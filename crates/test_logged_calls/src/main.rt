@@ -3,17 +3,17 @@
 // whole where n is at most 2, and as a checksum each where it is larger.
 use lookup::Called;
 
-fn print_line(called: Called, whole: bool, scratch: &[u8], log: &[u16]) {
+fn print_line(called: Called, whole: bool, scratch: &[u8], log: &[u32]) {
     test_records::print_first(called.refusal);
     test_records::print_next(called.share);
     test_records::print_next(called.count);
     test_records::print_bytes(whole, scratch);
-    test_records::print_entries(whole, log);
+    test_records::print_numbers(whole, log);
     test_records::end_line();
 }
 
 // Makes a record's call on the buffers lent, the scratch prepared as the record says, and prints its line.
-fn print_call(record: &[u8], scratch: &mut [u8], log: &mut [u16]) {
+fn print_call(record: &[u8], scratch: &mut [u8], log: &mut [u32]) {
     test_lookup_records::prepare(record, scratch);
     let table = test_lookup_records::table(record);
     let called = calls::logged(test_lookup_records::case(record), table, scratch, log);
@@ -23,7 +23,7 @@ fn print_call(record: &[u8], scratch: &mut [u8], log: &mut [u16]) {
 // Lends filled buffers of the record's lengths, so that what is cleared, what a call writes and what it leaves can all be seen.
 fn answer(record: &[u8]) {
     let mut scratch = [90u8; 300];
-    let mut log = [42405u16; 2400];
+    let mut log = [2779096485u32; 2400];
     let bytes = test_lookup_records::scratch_length(record);
     let entries = test_lookup_records::log_length(record);
     print_call(record, &mut scratch[..bytes], &mut log[..entries]);

@@ -16,7 +16,7 @@ pub extern "C" fn cippazhey_logged_call(
     b: u32,
     table: &[u8],
     scratch: &mut [u8],
-    log: &mut [u16],
+    log: &mut [u32],
 ) -> u32
     ensures { λ r. ⌜ r ≡ logged-reply (case-from method n m x0 r1 r2 s1 s2 r3 b) (now (table .entry)) (now (scratch .entry))
         (now (log .entry)) .refusal ⌝ }

@@ -120,11 +120,7 @@ pub fn take(whole: bool, checksum: u32, value: u32) -> u32 {
     if whole {
         print_next(value);
     }
-    (checksum % 65521 * 31 + value % 65536) % 65521
-}
-
-fn wide_entry(entry: u16) -> u32 {
-    entry as u32
+    ((checksum as u64 * 31 + value as u64) % 4294967291) as u32
 }
 
 // Prints a buffer whole, or its checksum.
@@ -140,24 +136,15 @@ pub fn print_bytes(whole: bool, bytes: &[u8]) {
     }
 }
 
-// The same of a log.
-pub fn print_entries(whole: bool, entries: &[u16]) {
+// The same of 32-bit numbers: log entries, or counts.
+pub fn print_numbers(whole: bool, numbers: &[u32]) {
     let mut checksum = 1;
     let mut at = 0;
-    while at < entries.len() {
-        checksum = take(whole, checksum, wide_entry(entries[at]));
+    while at < numbers.len() {
+        checksum = take(whole, checksum, numbers[at]);
         at += 1;
     }
     if !whole {
         print_next(checksum);
-    }
-}
-
-// Prints numbers, all of them.
-pub fn print_numbers(numbers: &[u32]) {
-    let mut at = 0;
-    while at < numbers.len() {
-        print_next(numbers[at]);
-        at += 1;
     }
 }

@@ -10,8 +10,8 @@ use Rattle.log_entries.proofs.entry.Tie as tie
 returns : tie.Need-returns
 unfolding entry
 returns c =
-    ap (λ high. bitOr high (c .args .value)) (shl-exact 8 8 16 (c .fits .kind .fits) (omega arith))
-    ∙ or-shifted (c .args .kind) 8 (c .args .value) (c .fits .value .fits)
+    ap (λ high. bitOr high (c .args .value)) (shl-exact 8 16 32 (c .fits .kind .fits) (omega arith))
+    ∙ or-shifted (c .args .kind) 16 (c .args .value) (c .fits .value .fits)
 
 pub entry-spec : {M : Type 1} → statement M
 entry-spec = tie.close (tie.spec returns)

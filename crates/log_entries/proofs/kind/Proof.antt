@@ -1,6 +1,5 @@
 -- `log_entries::kind` meets its contract.
 use mathlib.Core.Path.{refl}
-use borrow.Author.Needs.{needs}
 use Rattle.lookup.specs.Entry.{kind-of}
 use Rattle.log_entries.proofs.kind.Statement.{statement}
 use Rattle.log_entries.proofs.kind.Tie as tie
@@ -10,4 +9,4 @@ unfolding kind-of
 returns c = refl
 
 pub kind-spec : {M : Type 1} → statement M
-kind-spec = tie.close (tie.spec (λ c. search needs) returns)
+kind-spec = tie.close (tie.spec returns)

@@ -20,6 +20,6 @@ mul-log c = omega (arith, c .before .before .before .before .before .before .bef
 pub put-spec : {M : Type 1} → statement M
 put-spec =
     tie.close
-    (tie.spec Inv μ (λ c. search putting-begins) (λ c. search needs) (λ c. search needs) (λ c κs. search needs)
+    (tie.spec Inv μ (λ c. search putting-begins) (λ c. search needs) (λ c. search needs) (λ c. search needs) (λ c κs. search needs)
     (λ c. search needs) mul-log (λ c. search needs)
     (λ c. search needs) (λ c. search needs) (λ c. search putting-turns) (λ c. search needs) (λ c. search putting-ends))

@@ -1,6 +1,5 @@
 -- `log_entries::value` meets its contract.
 use mathlib.Core.Path.{refl}
-use borrow.Author.Needs.{needs}
 use Rattle.lookup.specs.Entry.{value-of}
 use Rattle.log_entries.proofs.value.Statement.{statement}
 use Rattle.log_entries.proofs.value.Tie as tie
@@ -10,4 +9,4 @@ unfolding value-of
 returns c = refl
 
 pub value-spec : {M : Type 1} → statement M
-value-spec = tie.close (tie.spec (λ c. search needs) returns)
+value-spec = tie.close (tie.spec returns)

@@ -6,10 +6,10 @@ use Rattle.test_records.proofs.print_numbers.Statement.{statement}
 use Rattle.test_records.proofs.print_numbers.Tie as tie
 
 abbrev Inv-loop : tie.InvT-loop
-Inv-loop numbers at₀ at = at ≤ length numbers
+Inv-loop whole numbers checksum₀ at₀ checksum at = at ≤ length numbers
 
 abbrev μ-loop : tie.MeasureT-loop
-μ-loop numbers at₀ at = length numbers - at
+μ-loop whole numbers checksum₀ at₀ checksum at = length numbers - at
 
 pub print-numbers-spec : {M : Type 1} → statement M
 print-numbers-spec =
@@ -24,4 +24,6 @@ print-numbers-spec =
     (λ c. search needs)
     (λ c. search needs)
     (λ c. search needs)
+    (λ c κs. tt)
+    (λ c. tt)
     (λ c. tt))
