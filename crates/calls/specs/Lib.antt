@@ -1,2 +1,3 @@
--- What the logged and the plain call hand back and leave behind.
+-- What the logged and the plain call hand back and leave behind, and what is promised of it.
 pub mod Reply
+pub mod Promises

@@ -25,7 +25,8 @@ use Rattle.lookup.proofs.Refused.{Clean, scratch-not-refused, log-not-refused, 
 use Rattle.lookup.proofs.Promises.{log-long}
 use Rattle.secrecy.specs.Count.{single, chosen-case, value-at}
 use Rattle.secrecy.proofs.Hiding.{Hiding, hiding}
-use Rattle.secrecy.proofs.Lent.{in-front-at, choice-taken}
+use Rattle.calls.proofs.Promises.{in-front-at}
+use Rattle.secrecy.proofs.Lent.{choice-taken}
 use Rattle.chain.specs.Lent.{Lent}
 use Rattle.chain.specs.Chain.{second-case, following, chain-refusal, chain-first-log, chain-second-log}
 use Rattle.chain.proofs.Accepted.{chain-passed, lent-checks, chain-by-lent}

@@ -24,7 +24,7 @@ use Rattle.lookup.proofs.Methods.{two-or-three}
 use Rattle.secrecy.specs.Count.{mask-widths, count}
 use Rattle.secrecy.specs.Promises.{Tells-nothing, Choices-counted}
 use Rattle.secrecy.proofs.Promises.{tells-nothing, choices-counted}
-use Rattle.secrecy.proofs.Lent.{in-front-at}
+use Rattle.calls.proofs.Promises.{in-front-at}
 use Rattle.count_sheet.specs.declared.ProbePair.{ProbePair}
 use Rattle.count_sheet.specs.Refusals.{value-width, pair-checks, buffer-checks, sheet-checks, count-refusal}
 use Rattle.count_sheet.specs.Sheet.{count-for, counts, sheet-left, scratch-left, log-left}

@@ -1,6 +1,6 @@
 -- What is promised of an accepted lookup holds.
 use mathlib.Core.Path.{_≡_, refl, sym, ap, _∙_}
-use mathlib.Core.Logic.{_⊎_, inl, inr}
+use mathlib.Core.Logic.{inl, inr}
 use mathlib.Core.List.{List, map}
 use Prim.Native.Nat.{ℕ, max, _/_, _%_, _^_, _<_}
 use native.Mathlib.Omega.{arith}
@@ -18,12 +18,12 @@ use Rattle.lookup.specs.Row.{Row, row-entry, masked}
 use Rattle.lookup.specs.Method.{Method}
 use Rattle.lookup.specs.Methods.{found, method-of}
 use Rattle.lookup.specs.Call.{answer, scratch-after, log-of, log-length, scratch-length}
-use Rattle.lookup.specs.Refusals.{case-refusal}
 use Rattle.lookup.specs.Promises.{Answer-right, Answer-small, Answer-kept, Rest-kept, Began-clean, Zeros-taken, Cleared-taken}
 use Rattle.lookup.specs.Promises.{Lengths-right, Log-long, Values-small, Log-read-back, Old-and-new}
 use Rattle.lookup.proofs.Each.{Each, each-map, each-at}
 use Rattle.lookup.proofs.Methods.{of-each, method-2-of}
-use Rattle.lookup.proofs.Entry.{entry-kind, entry-value, value-zero, value-kept, entry-small, byte-fits, old-kind, old-value, old-small, none-large}
+use Rattle.lookup.proofs.Entry.{entry-kind, entry-value, value-zero, value-kept, entry-small, byte-fits, none-large}
+use Rattle.lookup.proofs.Entry.{old-kind, old-value, old-small}
 use Rattle.lookup.proofs.Accepted.{Taken, accepted}
 use Rattle.lookup.proofs.Refused.{Clean, zeros-clean, zeros-before, cleared, log-not-refused, logged-plain, plain-by-case, logged-by-plain}
 use Rattle.lookup.proofs.Second.{byte-r3}
@@ -134,12 +134,12 @@ log-read-back table c e =
     let taken = accepted c table e in (
       read-back entry kind-of (λ a r. r .kind) table c taken (λ a r s. entry-kind (byte-fits (value-byte (taken .1) s))),
       read-back entry value-of (λ a r. r .value c table a) table c taken
-      (λ a r s. entry-value _ _ ∙ value-kept (byte-fits (value-byte (taken .1) s))),
+          (λ a r s. entry-value _ _ ∙ value-kept (byte-fits (value-byte (taken .1) s))),
     )
 
 -- two ways of packing and reading that give the same of every small row do so at every position
-read-alike : (new old : ℕ → ℕ → ℕ) (read-new read-old : ℕ → ℕ) → read-new 0 ≡ 0 → read-old 0 ≡ 0 → (table : List ℕ) (c : Case) → Taken c table
-    → ((a : ℕ) (r : Row) → Small c table a r
+read-alike : (new old : ℕ → ℕ → ℕ) (read-new read-old : ℕ → ℕ) → read-new 0 ≡ 0 → read-old 0 ≡ 0 → (table : List ℕ) (c : Case)
+    → Taken c table → ((a : ℕ) (r : Row) → Small c table a r
     → read-new (new (r .kind) (r .value c table a)) ≡ read-old (old (r .kind) (r .value c table a)))
     → (i : ℕ) → read-new (at (packed-log new c table) i) ≡ read-old (at (packed-log old c table) i)
 unfolding at
@@ -160,10 +160,10 @@ old-and-new table c e =
       none-large 65536 (each-entry old-entry table c taken (λ a r s. old-small (s .kind) (byte a r s))),
       λ i. (
         read-alike entry old-entry (λ e. e / 65536) (λ e. e / 256) refl refl table c taken
-        (λ a r s. entry-kind (byte-fits (byte a r s)) ∙ sym (old-kind (byte a r s))) i,
+            (λ a r s. entry-kind (byte-fits (byte a r s)) ∙ sym (old-kind (byte a r s))) i,
         read-alike entry old-entry (λ e. e % 65536) (λ e. e % 256) refl refl table c taken
-        (λ a r s. entry-value (r .kind) _ ∙ value-kept (byte-fits (byte a r s)) ∙ sym (old-value (r .kind) (byte a r s))) i,
+            (λ a r s. entry-value (r .kind) _ ∙ value-kept (byte-fits (byte a r s)) ∙ sym (old-value (r .kind) (byte a r s))) i,
         each-at {P = λ v. v % 65536 < 256} 0 i (omega arith)
-        (each-entry entry table c taken (λ a r s. rw (entry-value (r .kind) _, value-kept (byte-fits (byte a r s))) (byte a r s))),
+            (each-entry entry table c taken (λ a r s. rw (entry-value (r .kind) _, value-kept (byte-fits (byte a r s))) (byte a r s))),
       ),
     )

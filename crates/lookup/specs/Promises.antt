@@ -13,7 +13,6 @@ use Rattle.lookup.specs.Case.{Q}
 use Rattle.lookup.specs.Entry.{kind-of, value-of, entry-limit}
 use Rattle.lookup.specs.OldEntry.{old-log}
 use Rattle.lookup.specs.Layout.{lines}
-use Rattle.lookup.specs.Row.{Row}
 use Rattle.lookup.specs.Methods.{method-of}
 use Rattle.lookup.specs.Call.{answer, scratch-after, log-of, log-length, scratch-length}
 use Rattle.lookup.specs.Refusals.{case-refusal, plain-refusal, logged-refusal}
@@ -88,5 +87,6 @@ unfoldable pub Old-and-new : Type 0
 Old-and-new =
     (table : List ℕ) (c : Case) → case-refusal c table ≡ 0 →
     (length (log-of c table) ≡ length (old-log c table)) × (any-from 65536 (old-log c table) ≡ false)
-    × ((i : ℕ) → (at (log-of c table) i / 65536 ≡ at (old-log c table) i / 256) × (at (log-of c table) i % 65536 ≡ at (old-log c table) i % 256)
+    × ((i : ℕ) → (at (log-of c table) i / 65536 ≡ at (old-log c table) i / 256)
+    × (at (log-of c table) i % 65536 ≡ at (old-log c table) i % 256)
     × (at (log-of c table) i % 65536 < 256))

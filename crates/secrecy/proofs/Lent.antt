@@ -4,14 +4,11 @@ use mathlib.Core.Path.{_≡_, refl, sym, ap, _∙_}
 use mathlib.Core.Bool.{true}
 use mathlib.Core.List.{List, _++_}
 use Prim.Native.Nat.{ℕ, zero, suc, _^_, _<_}
-use lib.ListN.{length, drop, List·getD-append}
 use Rattle.bits.specs.Xor.{_⊕_}
 use Rattle.bits.proofs.Xor.{below, xors}
 use Rattle.refusals.specs.Checks.{first-of}
-use Rattle.buffers.specs.Written.{in-front}
 use Rattle.counting.specs.Choice.{_▸_, over, Within}
 use Rattle.counting.proofs.Over.{over-ext}
-use Rattle.table.specs.Balanced.{at}
 use Rattle.table.specs.Refusals.{table-refusal}
 use Rattle.table.proofs.Refusals.{table-accepted}
 use Rattle.lookup.specs.declared.Case.{Case}
@@ -20,30 +17,20 @@ use Rattle.lookup.specs.Entry.{value-of}
 use Rattle.lookup.specs.Methods.{known}
 use Rattle.lookup.specs.Call.{log-of, log-length}
 use Rattle.lookup.specs.Refusals.{scratch-checks, log-checks, logged-refusal}
-use Rattle.lookup.specs.Promises.{Log-long}
-use Rattle.lookup.proofs.Promises.{log-long}
 use Rattle.lookup.proofs.Methods.{of-each, known-2-or-3}
 use Rattle.lookup.proofs.Accepted.{Taken, accepted, not-refused}
 use Rattle.lookup.proofs.Refused.{log-not-refused, logged-case, plain-by-case, logged-by-plain, logged-by-rest}
 use Rattle.refusals.specs.Left.{left}
 use Rattle.calls.specs.Reply.{logged-log}
+use Rattle.calls.proofs.Promises.{left-at}
 use Rattle.secrecy.specs.Count.{single, chosen-case, mask-widths, value-at, shows, count, call-count}
 use Rattle.secrecy.specs.Promises.{Tells-nothing, Choices-accepted, Accepted-chosen, Lent-log-counted, Call-tells-nothing}
 use Rattle.secrecy.proofs.Hiding.{hiding}
 use Rattle.secrecy.proofs.Promises.{tells-nothing}
 
--- entries in front are read as they are
-pub in-front-at : (new old : List ℕ) (i : ℕ) → i < length new → at (in-front new old) i ≡ at new i
-unfolding at in-front
-in-front-at new old i h = List·getD-append new (drop (length new) old) 0 i h
-
 pub lent-log-counted : Lent-log-counted
-unfolding Lent-log-counted Log-long logged-log left chosen-case
-lent-log-counted table scratch lent method n m x choice i e h =
-    let c = chosen-case single method n m x choice in
-    let whole = logged-case c table scratch lent e in
-    let long : length (log-of c table) ≡ log-length method n = log-long table c whole .0 in
-    rw e (in-front-at (log-of c table) lent i (rw long h))
+unfolding Lent-log-counted chosen-case
+lent-log-counted table scratch lent method n m x choice i e h = left-at table scratch lent (chosen-case single method n m x choice) i e h
 
 -- a choice within its widths makes a case that is accepted
 pub choice-taken : (table : List ℕ) (method n m x : ℕ) (choice : ℕ → ℕ) → table-refusal n m table ≡ 0 → known method ≡ true → x < 2 ^ n

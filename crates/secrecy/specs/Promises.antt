@@ -17,6 +17,7 @@ use Rattle.lookup.specs.Call.{log-of, log-length, scratch-length}
 use Rattle.lookup.specs.Refusals.{dirty, logged-refusal}
 use Rattle.calls.specs.Reply.{logged-log}
 use Rattle.secrecy.specs.Count.{single, chosen-case, mask-widths, count, call-count}
+use Rattle.secrecy.specs.OldCount.{old-count}
 
 -- two positions show any two values equally often for any two inputs
 abbrev pub Alike-at : (table : List ℕ) → (method n m i j : ℕ) → Type 0
@@ -42,6 +43,12 @@ unfoldable pub Even-tells-nothing : Type 0
 Even-tells-nothing =
     (table : List ℕ) (method n m x y i j u v : ℕ) → Even n (at table) → ((z : ℕ) → at table z < 2 ^ m) → (method ≡ 2) ⊎ (method ≡ 3) →
     x < 2 ^ n → y < 2 ^ n → count table method n m x i j u v ≡ count table method n m y i j u v
+
+-- these are the counts of the 16-bit entries of before, so the demand is the one that it was
+unfoldable pub Counts-as-before : Type 0
+Counts-as-before =
+    (table : List ℕ) (method n m x i j u v : ℕ) → table-refusal n m table ≡ 0 → (method ≡ 2) ⊎ (method ≡ 3) → x < 2 ^ n →
+    count table method n m x i j u v ≡ old-count table method n m x i j u v
 
 -- how many choices there are: 2^(3n + 2m) under method 2, and twice as many under method 3
 unfoldable pub Choices-counted : Type 0

@@ -1,0 +1,34 @@
+-- What is promised of the log that an accepted call leaves holds.
+use mathlib.Core.Path.{_≡_}
+use mathlib.Core.List.{List}
+use Prim.Native.Nat.{ℕ, _<_}
+use lib.ListN.{length, drop, List·getD-append}
+use Rattle.refusals.specs.Left.{left}
+use Rattle.buffers.specs.Written.{in-front}
+use Rattle.table.specs.Balanced.{at}
+use Rattle.lookup.specs.declared.Case.{Case}
+use Rattle.lookup.specs.Call.{log-of, log-length}
+use Rattle.lookup.specs.Refusals.{logged-refusal}
+use Rattle.lookup.specs.Promises.{Log-long, Old-and-new}
+use Rattle.lookup.proofs.Refused.{logged-case}
+use Rattle.lookup.proofs.Promises.{log-long, old-and-new}
+use Rattle.calls.specs.Reply.{logged-log}
+use Rattle.calls.specs.Promises.{Left-as-before}
+
+-- entries in front are read as they are
+pub in-front-at : (new old : List ℕ) (i : ℕ) → i < length new → at (in-front new old) i ≡ at new i
+unfolding at in-front
+in-front-at new old i h = List·getD-append new (drop (length new) old) 0 i h
+
+-- an entry of the log that is left is that of the log as it is defined
+pub left-at : (table scratch lent : List ℕ) (c : Case) (i : ℕ) → logged-refusal c table scratch lent ≡ 0 → i < log-length (c .method) (c .n)
+    → at (logged-log c table scratch lent) i ≡ at (log-of c table) i
+unfolding Log-long logged-log left
+left-at table scratch lent c i e h =
+    let long : length (log-of c table) ≡ log-length (c .method) (c .n) = log-long table c (logged-case c table scratch lent e) .0 in
+    rw e (in-front-at (log-of c table) lent i (rw long h))
+
+pub left-as-before : Left-as-before
+unfolding Left-as-before Old-and-new
+left-as-before table scratch lent c e i h =
+    rw (left-at table scratch lent c i e h) (old-and-new table c (logged-case c table scratch lent e) .2 i)
