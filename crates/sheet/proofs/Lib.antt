@@ -1,3 +1,4 @@
 -- The laws of the print.
 pub mod Replies
 pub mod Prints
+pub mod Promises
