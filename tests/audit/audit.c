@@ -20,7 +20,7 @@
 enum { LONGEST = 256, MOST_STEPS = 1 << 16, RANDOM_INPUTS = 4, RANDOM_CHOICES = 24 };
 
 static uint8_t table[LONGEST], scratch[LONGEST];
-static uint16_t entries[2400];
+static uint32_t entries[2400];
 static const struct subject *subject;
 static uintptr_t *audited; // the addresses that the exhaustive cases above n = 1 executed, in order
 static size_t audited_count;
@@ -66,13 +66,13 @@ static bool one_call(runner *run, struct trace *trace, struct widths w, uint32_t
     struct call call = {subject->code,
                         {w.method, w.n, w.m, x ^ c.r1 ^ c.r2, c.r1, c.r2, c.s1, c.s2, c.r3, c.b, (uintptr_t)table, length,
                          (uintptr_t)scratch, length, (uintptr_t)entries, log_length},
-                        {{"table", table, length}, {"scratch", scratch, length}, {"log", entries, 2 * log_length}}};
+                        {{"table", table, length}, {"scratch", scratch, length}, {"log", entries, sizeof *entries * log_length}}};
     struct call clearing = {subject->code, {(uintptr_t)scratch, length}, {{"scratch", scratch, length}}};
     uint64_t result;
     lend_scratch(w, x, c);
     memset(entries, 0, sizeof entries);
     const char *trouble = run(trace, subject->flags & CLEARS ? &clearing : &call, &result);
-    uint32_t answer = subject->flags & LOGGED ? entries[log_length - 1] & 255u : (uint32_t)result & 65535u;
+    uint32_t answer = (subject->flags & LOGGED ? entries[log_length - 1] : (uint32_t)result) & 65535u;
     if (!trouble && !right_answer(table[x] ^ c.s1 ^ c.s2, answer, length) && watches(ANSWERS_PART)) trouble = "wrong answer";
     if (!trouble) return true;
     printf("    %s: x = %u, r1 = %u, r2 = %u, r3 = %u, s1 = %u, s2 = %u, b = %u\n", trouble, x, c.r1, c.r2, c.r3, c.s1, c.s2, c.b);
@@ -163,7 +163,7 @@ static int exhaustive(struct widths w, const uint8_t *lent_table) {
     size_t each = (size_t)1 << (3 * w.n + 2 * w.m + bit);
     struct study study = {"exhaustive", w, {8, 32}, inputs, each, input_itself, choice_numbered, leaking_pairs, NULL};
     struct trace trace;
-    if (subject->flags & LOGGED) study.division = (struct division){2, 2};
+    if (subject->flags & LOGGED) study.division = watches(LOG_ENTRIES_PART) ? (struct division){4, 4} : (struct division){2, 2};
     if (subject->flags & CLEARS) study.leaking = dependent_probes;
     memcpy(table, lent_table, entries);
     int found = carry_out(&study, &trace);

@@ -1,5 +1,6 @@
 # The controls: each handles its arguments in one way that one part of the audit alone can see, on its way to a call that is silent by itself.
-# A control has the name of its part (parts.h). Two parts have two, for the stack and for the lent scratch. The last ones have none.
+# A control has the name of its part (parts.h). Three parts have two: for the stack and the lent scratch, for a register and memory. The
+# last ones have none.
 #
 # At entry: edi method, esi n, edx m, ecx x0, r8d r1, r9d r2; on the stack, from 8(%rsp) on, 8 bytes each: s1, s2, r3, b, table, its
 # length, scratch, its length. x0 and r1 together leak with r2. mov, lea, bswap and vector instructions leave the flags as they are.
@@ -222,6 +223,26 @@ control vector_store
     and $3, %eax
     movq %xmm0, -32(%rsp,%rax)
     go_on
+
+# The controls of a logged call, on their way to one that is silent: behind the scratch's length stand the log and its length.
+    .macro go_on_logged
+    jmp guarded_logged_call
+    .endm
+
+# x0 in the lower 16 bits of 32, r1 in the upper.
+control log_entries
+    mov %r8d, %eax
+    bswap %eax
+    mov %cx, %ax
+    go_on_logged
+
+# The same in memory: they are written one by one and read at once, and nothing of them is left.
+control log_reads
+    mov %cx, -8(%rsp)
+    mov %r8w, -6(%rsp)
+    xor %eax, %eax
+    and -8(%rsp), %eax
+    go_on_logged
 
 # The controls of used scratch: each reads what an earlier call left, then r3, and refuses.
     .macro refuse

@@ -25,6 +25,7 @@ bool leave_out(const char *name) {
         [STORES_PART] = "stores",
         [WIDTHS_PART] = "widths",
         [FIT_PART] = "fit",
+        [LOG_ENTRIES_PART] = "log_entries",
         [ALONE_PART] = "alone",
         [TWOS_PART] = "twos",
         [BITS_PART] = "bits",

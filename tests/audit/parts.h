@@ -23,6 +23,7 @@ enum part {
     STORES_PART,       // memory changes only where an instruction is known to write
     WIDTHS_PART,       // what runs at n = 8 runs at n = 2
     FIT_PART,          // tables that are fit and not balanced
+    LOG_ENTRIES_PART,  // of a logged call, 32 bits are one probe, not 16
     ALONE_PART,        // of a frame, each column by itself
     TWOS_PART,         // and with each other
     BITS_PART,         // a column is a bit, not a byte

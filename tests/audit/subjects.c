@@ -77,6 +77,8 @@ CONTROLS(DECLARATION)
 TABLE_CONTROLS(DECLARATION)
 FRAME_CONTROLS(FRAME_DECLARATION)
 SCREENS(SCREEN_DECLARATION)
+void control_log_entries(void);
+void control_log_reads(void);
 void control_joined_leftovers(void);
 void control_single_leftovers(void);
 void control_early_exit(void);
@@ -94,6 +96,7 @@ void beside_frame(void);
 void frame_control_neighbours(void);
 void frame_stand_in(void);
 void guarded_plain_call(void);
+void guarded_logged_call(void);
 void guarded_bare_call(void);
 void baseline_plain_call(void);
 
@@ -103,6 +106,9 @@ const struct subject *subject_named(const char *name) {
         {"logged", cippazhey_logged_call, 0, 2, LOGGED},
         {"guarded", guarded_plain_call, 0, 3, CONTROL | BY_WIDTH},
         {"unguarded", baseline_plain_call, 0, 3, CONTROL | BY_WIDTH},
+        {"guarded_logged", guarded_logged_call, 0, 2, CONTROL | LOGGED | BY_WIDTH},
+        {"log_entries", control_log_entries, 0, 1, CONTROL | LOGGED},
+        {"log_reads", control_log_reads, 0, 1, CONTROL | LOGGED},
         {"inputs", guarded_bare_call, 11, 1, CONTROL}, // it checks no table, so it looks up in one that is not fit
         {"used", cippazhey_plain_call, 12, 1, USED},
         {"joined_leftovers", control_joined_leftovers, 12, 1, CONTROL | USED},

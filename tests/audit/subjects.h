@@ -3,7 +3,7 @@
 #define SUBJECTS_H
 
 enum {
-    LOGGED = 1,   // it writes a log, and each 16 bits of what it handles are a probe of their own
+    LOGGED = 1,   // it writes a log, and each 32 bits of what it handles, as wide as an entry, are a probe of their own
     CONTROL = 2,  // the audit is tried on it: the first case that leaks is enough
     BY_WIDTH = 4, // it may run other code at n = 8 than at small widths
     USED = 8,     // it is called on the scratch that a call under method 2 with the same numbers has left, and refuses it

@@ -6,7 +6,7 @@
 #include <stdlib.h>
 #include <string.h>
 
-enum { STACK_ROOM = 4096, RED_ZONE = 128, LONGEST_BUFFER = 8192, ARITHMETIC_FLAGS = 0x8d5, HALF = WIDEST / 2 };
+enum { STACK_ROOM = 4096, RED_ZONE = 128, LONGEST_BUFFER = 16384, ARITHMETIC_FLAGS = 0x8d5, HALF = WIDEST / 2 };
 
 // A place is where it stands in an image of all that is watched. The last address with two registers, and what was read and written last,
 // stand there like registers.

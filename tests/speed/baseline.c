@@ -120,13 +120,13 @@ PLAIN_CALL(NAME(plain_call)) {
     return (uint16_t)(number ? number * 256 : bare(method, n, x0, r1, r2, s1, s2, r3, b, table, scratch));
 }
 
-static uint16_t *put(uint16_t *log, unsigned kind, unsigned value) {
-    *log = (uint16_t)(kind << 8 | value);
+static uint32_t *put(uint32_t *log, uint32_t kind, uint32_t value) {
+    *log = kind << 16 | value;
     return log + 1;
 }
 
 static uint8_t logged_2(uint32_t n, uint32_t x0, uint32_t r1, uint32_t r2, uint32_t s1, uint32_t s2, uint32_t r3, const uint8_t *table,
-                        uint8_t *scratch, uint16_t *log) {
+                        uint8_t *scratch, uint32_t *log) {
     uint32_t turns = 1u << n, mixed = r1 ^ r3, first = mixed ^ r2;
     log = put(put(put(put(log, 10, x0), 1, r1), 2, r2), 3, s1);
     log = put(put(put(put(log, 4, s2), 5, r3), 6, mixed), 7, first);
@@ -141,7 +141,7 @@ static uint8_t logged_2(uint32_t n, uint32_t x0, uint32_t r1, uint32_t r2, uint3
 }
 
 static uint8_t logged_3(uint32_t n, uint32_t x0, uint32_t r1, uint32_t r2, uint32_t s1, uint32_t s2, uint32_t r3, uint32_t b,
-                        const uint8_t *table, uint8_t *scratch, uint16_t *log) {
+                        const uint8_t *table, uint8_t *scratch, uint32_t *log) {
     uint32_t turns = 1u << n;
     uint8_t registers[2] = {0, 0};
     memset(scratch, (int)(1 - b), turns);

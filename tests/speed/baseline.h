@@ -12,7 +12,7 @@
 #define LOGGED_CALL(name)                                                                                                       \
     uint16_t name(uint32_t method, uint32_t n, uint32_t m, uint32_t x0, uint32_t r1, uint32_t r2, uint32_t s1, uint32_t s2,      \
                   uint32_t r3, uint32_t b, const uint8_t *table, size_t table_length, uint8_t *scratch, size_t scratch_length,   \
-                  uint16_t *log, size_t log_length)
+                  uint32_t *log, size_t log_length)
 
 // refusal * 256 + share
 PLAIN_CALL(baseline_plain_call);

@@ -11,13 +11,13 @@
 
 uint32_t cippazhey_logged_call(uint32_t method, uint32_t n, uint32_t m, uint32_t x0, uint32_t r1, uint32_t r2, uint32_t s1,
                                uint32_t s2, uint32_t r3, uint32_t b, const uint8_t *table, size_t table_length,
-                               uint8_t *scratch, size_t scratch_length, uint16_t *log, size_t log_length);
+                               uint8_t *scratch, size_t scratch_length, uint32_t *log, size_t log_length);
 
 // What is timed: each round makes so many calls of each kind under each method.
 enum { TIMED = 5, ROUNDS = 200, CALLS = 1000 };
 
 static uint8_t table[256], scratch[256];
-static uint16_t log_entries[2400];
+static uint32_t log_entries[2400];
 static volatile unsigned sink;
 
 struct numbers {
