@@ -9,11 +9,11 @@ use Rattle.table.specs.Balanced.{at}
 use Rattle.lookup.specs.declared.Case.{Case}
 use Rattle.lookup.specs.Call.{log-of, log-length}
 use Rattle.lookup.specs.Refusals.{logged-refusal}
-use Rattle.lookup.specs.Promises.{Log-long, Old-and-new}
+use Rattle.lookup.specs.Promises.{Log-long, Wide-as-narrow}
 use Rattle.lookup.proofs.Refused.{logged-case}
-use Rattle.lookup.proofs.Promises.{log-long, old-and-new}
+use Rattle.lookup.proofs.Promises.{log-long, wide-as-narrow}
 use Rattle.calls.specs.Reply.{logged-log}
-use Rattle.calls.specs.Promises.{Left-as-before}
+use Rattle.calls.specs.Promises.{Left-as-narrow}
 
 -- entries in front are read as they are
 pub in-front-at : (new old : List ℕ) (i : ℕ) → i < length new → at (in-front new old) i ≡ at new i
@@ -28,7 +28,7 @@ left-at table scratch lent c i e h =
     let long : length (log-of c table) ≡ log-length (c .method) (c .n) = log-long table c (logged-case c table scratch lent e) .0 in
     rw e (in-front-at (log-of c table) lent i (rw long h))
 
-pub left-as-before : Left-as-before
-unfolding Left-as-before Old-and-new
-left-as-before table scratch lent c e i h =
-    rw (left-at table scratch lent c i e h) (old-and-new table c (logged-case c table scratch lent e) .2 i)
+pub left-as-narrow : Left-as-narrow
+unfolding Left-as-narrow Wide-as-narrow
+left-as-narrow table scratch lent c e i h =
+    rw (left-at table scratch lent c i e h) (wide-as-narrow table c (logged-case c table scratch lent e) .2 i)

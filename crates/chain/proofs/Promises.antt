@@ -14,17 +14,20 @@ use Rattle.table.specs.Balanced.{at}
 use Rattle.lookup.specs.declared.Case.{Case}
 use Rattle.lookup.specs.Case.{Q}
 use Rattle.lookup.specs.Call.{answer}
-use Rattle.lookup.specs.Refusals.{mask-checks, scratch-checks, log-checks, box-checks, other-checks, case-refusal, logged-refusal}
+use Rattle.lookup.specs.Refusals.{mask-checks, scratch-checks, log-checks, box-checks, other-checks, logged-refusal}
 use Rattle.lookup.specs.Promises.{Answer-right, Answer-small}
 use Rattle.lookup.proofs.Refused.{logged-case, box-numbered, other-numbered, parts-passed}
 use Rattle.lookup.proofs.Accepted.{accepted}
 use Rattle.lookup.proofs.Promises.{answer-right, answer-small}
 use Rattle.calls.specs.Reply.{called, logged-reply, logged-scratch, logged-log}
+use Rattle.calls.specs.Promises.{Left-as-narrow}
+use Rattle.calls.proofs.Promises.{left-as-narrow}
 use Rattle.chain.specs.declared.Second.{Second}
 use Rattle.chain.specs.Lent.{Lent}
 use Rattle.chain.specs.Chain.{second-case, following, chained, chain-refusal, chain-reply}
 use Rattle.chain.specs.Chain.{chain-first-scratch, chain-second-scratch, chain-first-log, chain-second-log}
-use Rattle.chain.specs.Promises.{then-case, Share-right, Share-small, Refused-kept, Accepted-as-two, Left-as-two, Ten-by-r3}
+use Rattle.chain.specs.Promises.{then-case, Share-right, Share-small, Refused-kept, Accepted-as-two, Left-as-two}
+use Rattle.chain.specs.Promises.{Ten-by-r3, Chain-as-narrow}
 use Rattle.chain.proofs.Checking.{answer-fits, chain-parts}
 use Rattle.chain.proofs.Accepted.{Passed, chain-passed, chain-accepted}
 use Rattle.chain.proofs.Replies.{refused-reply, first-scratch-kept, second-scratch-kept, first-log-kept, second-log-kept}
@@ -92,6 +95,17 @@ left-as-two first second l e =
       rw (e, k .first-accepted, k .second-accepted),
       rw (e, k .first-accepted),
       rw (e, k .first-accepted, k .second-accepted),
+    )
+
+pub chain-as-narrow : Chain-as-narrow
+unfolding Chain-as-narrow Accepted-as-two Left-as-two Left-as-narrow second-case
+chain-as-narrow first second l e =
+    let two = accepted-as-two first second l .0 e in
+    let left = left-as-two first second l e in (
+      λ i h. rw (left .5) (left-as-narrow (l .first-table) (l .first-scratch) (l .first-log) first (two .0) i h),
+      λ i h.
+          rw (left .6)
+          (left-as-narrow (l .second-table) (l .second-scratch) (l .second-log) (then-case first second l) (two .2) i h),
     )
 
 -- the second's other checks: 10 by its r3, and then others

@@ -1,11 +1,13 @@
 -- What is promised of a chained call. Each is a type; its proof stands in proofs/Promises.antt.
 use mathlib.Core.Path.{_≡_}
-use Prim.Native.Nat.{_^_, _≤_, _<_}
+use Prim.Native.Nat.{ℕ, _^_, _≤_, _<_}
 use Rattle.bits.specs.Xor.{_⊕_}
 use Rattle.refusals.specs.Checks.{first-of}
 use Rattle.table.specs.Balanced.{at}
 use Rattle.lookup.specs.declared.Case.{Case}
 use Rattle.lookup.specs.declared.Called.{Called}
+use Rattle.lookup.specs.NarrowEntry.{narrow-log, Says-the-same}
+use Rattle.lookup.specs.Call.{log-length}
 use Rattle.lookup.specs.Refusals.{box-checks, logged-refusal}
 use Rattle.calls.specs.Reply.{logged-reply, logged-scratch, logged-log}
 use Rattle.chain.specs.declared.Second.{Second}
@@ -73,3 +75,12 @@ Ten-by-r3 =
     (first : Case) (second : Second) (l : Lent) → logged-refusal first (l .first-table) (l .first-scratch) (l .first-log) ≡ 0
     → first .m ≡ second .n → first-of (box-checks (then-case first second l) (l .second-table)) ≡ 0 →
     (2 ^ second .n ≤ second .r3 → chain-refusal first second l ≡ 10) × (chain-refusal first second l ≡ 10 → 2 ^ second .n ≤ second .r3)
+
+-- each entry of both logs has the kind and the value of the entry that a log of 16-bit entries has at its position
+unfoldable pub Chain-as-narrow : Type 0
+Chain-as-narrow =
+    (first : Case) (second : Second) (l : Lent) → chain-refusal first second l ≡ 0 →
+    ((i : ℕ) → i < log-length (first .method) (first .n) →
+    Says-the-same (at (chain-first-log first second l) i) (at (narrow-log first (l .first-table)) i))
+    × ((i : ℕ) → i < log-length (second .method) (second .n) →
+    Says-the-same (at (chain-second-log first second l) i) (at (narrow-log (then-case first second l) (l .second-table)) i))

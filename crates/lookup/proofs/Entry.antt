@@ -1,13 +1,13 @@
--- A log entry gives back its kind and its value, and fits its bits; so did the entry of before.
+-- A log entry gives back its kind and its value, and fits its bits; so does a narrow one.
 use mathlib.Core.Path.{_≡_, refl}
 use mathlib.Core.Bool.{false}
 use mathlib.Core.List.{List}
-use Prim.Native.Nat.{ℕ, _/_, _%_, _<_}
+use Prim.Native.Nat.{ℕ, _<_}
 use native.Mathlib.Omega.{arith}
 use Rattle.refusals.specs.Tests.{any-from}
 use Rattle.refusals.proofs.Tests.{one-below, none-below}
 use Rattle.lookup.specs.Entry.{entry, kind-of, value-of, entry-limit}
-use Rattle.lookup.specs.OldEntry.{old-entry}
+use Rattle.lookup.specs.NarrowEntry.{narrow-entry, narrow-kind-of, narrow-value-of}
 use Rattle.lookup.proofs.Each.{Each, none, more}
 
 -- whatever is packed, its value is taken modulo the value's range
@@ -39,17 +39,17 @@ entry-small h k = omega arith
 pub byte-fits : {number : ℕ} → number < 256 → number < 65536
 byte-fits h = omega arith
 
-pub old-kind : {kind value : ℕ} → value < 256 → old-entry kind value / 256 ≡ kind
-unfolding old-entry
-old-kind h = omega arith
+pub narrow-kind : {kind value : ℕ} → value < 256 → narrow-kind-of (narrow-entry kind value) ≡ kind
+unfolding narrow-entry narrow-kind-of
+narrow-kind h = omega arith
 
-pub old-value : (kind : ℕ) {value : ℕ} → value < 256 → old-entry kind value % 256 ≡ value
-unfolding old-entry
-old-value kind h = omega arith
+pub narrow-value : (kind : ℕ) {value : ℕ} → value < 256 → narrow-value-of (narrow-entry kind value) ≡ value
+unfolding narrow-entry narrow-value-of
+narrow-value kind h = omega arith
 
-pub old-small : {kind value : ℕ} → kind < 256 → value < 256 → old-entry kind value < 65536
-unfolding old-entry
-old-small h k = omega arith
+pub narrow-small : {kind value : ℕ} → kind < 256 → value < 256 → narrow-entry kind value < 65536
+unfolding narrow-entry
+narrow-small h k = omega arith
 
 pub none-large : (limit : ℕ) {es : List ℕ} → Each (λ e. e < limit) es → any-from limit es ≡ false
 none-large limit none = none-below limit

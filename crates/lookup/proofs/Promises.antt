@@ -2,7 +2,7 @@
 use mathlib.Core.Path.{_≡_, refl, sym, ap, _∙_}
 use mathlib.Core.Logic.{inl, inr}
 use mathlib.Core.List.{List, map}
-use Prim.Native.Nat.{ℕ, max, _/_, _%_, _^_, _<_}
+use Prim.Native.Nat.{ℕ, max, _%_, _^_, _<_}
 use native.Mathlib.Omega.{arith}
 use lib.ListN.{replicate}
 use lib.Pow.{pow-pos}
@@ -12,18 +12,18 @@ use Rattle.table.specs.Balanced.{at}
 use Rattle.lookup.specs.declared.Case.{Case}
 use Rattle.lookup.specs.Case.{Q}
 use Rattle.lookup.specs.Entry.{entry, kind-of, value-of, entry-limit}
-use Rattle.lookup.specs.OldEntry.{old-entry, old-log}
+use Rattle.lookup.specs.NarrowEntry.{narrow-entry, narrow-kind-of, narrow-value-of, narrow-log}
 use Rattle.lookup.specs.Layout.{lines}
 use Rattle.lookup.specs.Row.{Row, row-entry, masked}
 use Rattle.lookup.specs.Method.{Method}
 use Rattle.lookup.specs.Methods.{found, method-of}
 use Rattle.lookup.specs.Call.{answer, scratch-after, log-of, log-length, scratch-length}
 use Rattle.lookup.specs.Promises.{Answer-right, Answer-small, Answer-kept, Rest-kept, Began-clean, Zeros-taken, Cleared-taken}
-use Rattle.lookup.specs.Promises.{Lengths-right, Log-long, Values-small, Log-read-back, Old-and-new}
+use Rattle.lookup.specs.Promises.{Lengths-right, Log-long, Values-small, Log-read-back, Entry-read-back, Wide-as-narrow}
 use Rattle.lookup.proofs.Each.{Each, each-map, each-at}
 use Rattle.lookup.proofs.Methods.{of-each, method-2-of}
 use Rattle.lookup.proofs.Entry.{entry-kind, entry-value, value-zero, value-kept, entry-small, byte-fits, none-large}
-use Rattle.lookup.proofs.Entry.{old-kind, old-value, old-small}
+use Rattle.lookup.proofs.Entry.{narrow-kind, narrow-value, narrow-small}
 use Rattle.lookup.proofs.Accepted.{Taken, accepted}
 use Rattle.lookup.proofs.Refused.{Clean, zeros-clean, zeros-before, cleared, log-not-refused, logged-plain, plain-by-case, logged-by-plain}
 use Rattle.lookup.proofs.Second.{byte-r3}
@@ -137,6 +137,10 @@ log-read-back table c e =
           (λ a r s. entry-value _ _ ∙ value-kept (byte-fits (value-byte (taken .1) s))),
     )
 
+pub entry-read-back : Entry-read-back
+unfolding Entry-read-back
+entry-read-back kind value h k = (entry-small h k, entry-kind k, entry-value kind value ∙ value-kept k)
+
 -- two ways of packing and reading that give the same of every small row do so at every position
 read-alike : (new old : ℕ → ℕ → ℕ) (read-new read-old : ℕ → ℕ) → read-new 0 ≡ 0 → read-old 0 ≡ 0 → (table : List ℕ) (c : Case)
     → Taken c table → ((a : ℕ) (r : Row) → Small c table a r
@@ -150,19 +154,19 @@ read-alike new old read-new read-old z o table c taken h i =
     ∙ sym (lines-map (λ a r. old (r .kind) (r .value c table a)) read-old (Q c) (method-of (c .method) .layout)))
     ∙ at-map read-old 0 o (packed-log old c table) i
 
-pub old-and-new : Old-and-new
-unfolding Old-and-new log-of old-log kind-of value-of at
-old-and-new table c e =
+pub wide-as-narrow : Wide-as-narrow
+unfolding Wide-as-narrow log-of narrow-log kind-of value-of narrow-kind-of narrow-value-of at
+wide-as-narrow table c e =
     let taken = accepted c table e in
     let byte : (a : ℕ) (r : Row) → Small c table a r → r .value c table a < 256 = λ a r s. value-byte (taken .1) s in
     let layout = method-of (c .method) .layout in (
-      lines-long (row-entry c table) (Q c) layout ∙ sym (lines-long (λ a r. old-entry (r .kind) (r .value c table a)) (Q c) layout),
-      none-large 65536 (each-entry old-entry table c taken (λ a r s. old-small (s .kind) (byte a r s))),
+      lines-long (row-entry c table) (Q c) layout ∙ sym (lines-long (λ a r. narrow-entry (r .kind) (r .value c table a)) (Q c) layout),
+      none-large 65536 (each-entry narrow-entry table c taken (λ a r s. narrow-small (s .kind) (byte a r s))),
       λ i. (
-        read-alike entry old-entry (λ e. e / 65536) (λ e. e / 256) refl refl table c taken
-            (λ a r s. entry-kind (byte-fits (byte a r s)) ∙ sym (old-kind (byte a r s))) i,
-        read-alike entry old-entry (λ e. e % 65536) (λ e. e % 256) refl refl table c taken
-            (λ a r s. entry-value (r .kind) _ ∙ value-kept (byte-fits (byte a r s)) ∙ sym (old-value (r .kind) (byte a r s))) i,
+        read-alike entry narrow-entry kind-of narrow-kind-of refl refl table c taken
+            (λ a r s. entry-kind (byte-fits (byte a r s)) ∙ sym (narrow-kind (byte a r s))) i,
+        read-alike entry narrow-entry value-of narrow-value-of refl refl table c taken
+            (λ a r s. entry-value (r .kind) _ ∙ value-kept (byte-fits (byte a r s)) ∙ sym (narrow-value (r .kind) (byte a r s))) i,
         each-at {P = λ v. v % 65536 < 256} 0 i (omega arith)
             (each-entry entry table c taken (λ a r s. rw (entry-value (r .kind) _, value-kept (byte-fits (byte a r s))) (byte a r s))),
       ),

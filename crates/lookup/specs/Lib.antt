@@ -7,7 +7,7 @@ pub mod Method
 pub mod Method2
 pub mod Method3
 pub mod Methods
-pub mod OldEntry
+pub mod NarrowEntry
 pub mod Call
 pub mod Refusals
 pub mod Bounded

@@ -3,15 +3,15 @@ use mathlib.Core.Path.{_≡_}
 use mathlib.Core.Logic.{_⊎_}
 use mathlib.Core.Bool.{false}
 use mathlib.Core.List.{List, map}
-use Prim.Native.Nat.{ℕ, max, _+_, _*_, _/_, _%_, _^_, _≤_, _<_}
+use Prim.Native.Nat.{ℕ, max, _+_, _*_, _^_, _≤_, _<_}
 use lib.ListN.{length, take, drop, replicate}
 use Rattle.bits.specs.Xor.{_⊕_}
 use Rattle.refusals.specs.Tests.{any-from}
 use Rattle.table.specs.Balanced.{at}
 use Rattle.lookup.specs.declared.Case.{Case}
 use Rattle.lookup.specs.Case.{Q}
-use Rattle.lookup.specs.Entry.{kind-of, value-of, entry-limit}
-use Rattle.lookup.specs.OldEntry.{old-log}
+use Rattle.lookup.specs.Entry.{entry, kind-of, value-of, entry-limit}
+use Rattle.lookup.specs.NarrowEntry.{narrow-log, Says-the-same}
 use Rattle.lookup.specs.Layout.{lines}
 use Rattle.lookup.specs.Methods.{method-of}
 use Rattle.lookup.specs.Call.{answer, scratch-after, log-of, log-length, scratch-length}
@@ -82,11 +82,16 @@ Log-read-back =
     (map kind-of (log-of c table) ≡ lines (λ a r. r .kind) (Q c) (method-of (c .method) .layout))
     × (map value-of (log-of c table) ≡ lines (λ a r. r .value c table a) (Q c) (method-of (c .method) .layout))
 
--- each entry says what the 16-bit entry of before said, at the same position: the same kind and the same value, which is below 256
-unfoldable pub Old-and-new : Type 0
-Old-and-new =
+-- a kind and a value of sixteen bits each make an entry of 32, which gives both back
+unfoldable pub Entry-read-back : Type 0
+Entry-read-back =
+    (kind value : ℕ) → kind < 65536 → value < 65536 →
+    (entry kind value < entry-limit) × (kind-of (entry kind value) ≡ kind) × (value-of (entry kind value) ≡ value)
+
+-- the log tells what it told when its entries were narrow: there are as many, each of which fitted 16 bits, and at each position the entry has
+-- the narrow one's kind and value
+unfoldable pub Wide-as-narrow : Type 0
+Wide-as-narrow =
     (table : List ℕ) (c : Case) → case-refusal c table ≡ 0 →
-    (length (log-of c table) ≡ length (old-log c table)) × (any-from 65536 (old-log c table) ≡ false)
-    × ((i : ℕ) → (at (log-of c table) i / 65536 ≡ at (old-log c table) i / 256)
-    × (at (log-of c table) i % 65536 ≡ at (old-log c table) i % 256)
-    × (at (log-of c table) i % 65536 < 256))
+    (length (log-of c table) ≡ length (narrow-log c table)) × (any-from 65536 (narrow-log c table) ≡ false)
+    × ((i : ℕ) → Says-the-same (at (log-of c table) i) (at (narrow-log c table) i))

@@ -8,4 +8,4 @@ pub mod Unfit
 pub mod Hiding
 pub mod Promises
 pub mod Lent
-pub mod OldCount
+pub mod NarrowCount

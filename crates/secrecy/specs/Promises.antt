@@ -1,5 +1,5 @@
 -- The third demand (docs/ARCHITECTURE.md says which that is), of the log as it is defined and of the logged call itself. Each statement is
--- a type; the proofs stand in proofs/Promises.antt and proofs/Lent.antt.
+-- a type; the proofs stand in proofs/Promises.antt, Lent.antt, Unfit.antt and NarrowCount.antt.
 use mathlib.Core.Path.{_≡_}
 use mathlib.Core.Logic.{_⊎_}
 use mathlib.Core.Bool.{true, false}
@@ -17,7 +17,7 @@ use Rattle.lookup.specs.Call.{log-of, log-length, scratch-length}
 use Rattle.lookup.specs.Refusals.{dirty, logged-refusal}
 use Rattle.calls.specs.Reply.{logged-log}
 use Rattle.secrecy.specs.Count.{single, chosen-case, mask-widths, count, call-count}
-use Rattle.secrecy.specs.OldCount.{old-count}
+use Rattle.secrecy.specs.NarrowCount.{narrow-count}
 
 -- two positions show any two values equally often for any two inputs
 abbrev pub Alike-at : (table : List ℕ) → (method n m i j : ℕ) → Type 0
@@ -44,11 +44,11 @@ Even-tells-nothing =
     (table : List ℕ) (method n m x y i j u v : ℕ) → Even n (at table) → ((z : ℕ) → at table z < 2 ^ m) → (method ≡ 2) ⊎ (method ≡ 3) →
     x < 2 ^ n → y < 2 ^ n → count table method n m x i j u v ≡ count table method n m y i j u v
 
--- these are the counts of the 16-bit entries of before, so the demand is the one that it was
-unfoldable pub Counts-as-before : Type 0
-Counts-as-before =
+-- of a table that is accepted, these are the counts of the narrow entries that logs had before: the demand is the one that it was
+unfoldable pub Counts-as-narrow : Type 0
+Counts-as-narrow =
     (table : List ℕ) (method n m x i j u v : ℕ) → table-refusal n m table ≡ 0 → (method ≡ 2) ⊎ (method ≡ 3) → x < 2 ^ n →
-    count table method n m x i j u v ≡ old-count table method n m x i j u v
+    count table method n m x i j u v ≡ narrow-count table method n m x i j u v
 
 -- how many choices there are: 2^(3n + 2m) under method 2, and twice as many under method 3
 unfoldable pub Choices-counted : Type 0

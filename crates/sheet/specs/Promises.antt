@@ -3,8 +3,8 @@ use mathlib.Core.Path.{_≡_}
 use mathlib.Core.List.{List}
 use Prim.Native.Nat.{ℕ}
 use Rattle.sheet.specs.Print.{print}
-use Rattle.sheet.specs.OldPrint.{old-print}
+use Rattle.sheet.specs.NarrowPrint.{narrow-print}
 
--- wider entries print what 16-bit ones printed, for every input
-unfoldable pub Print-as-before : Type 0
-Print-as-before = (input : List ℕ) → print input ≡ old-print input
+-- for every input, what is printed is what narrow entries printed
+unfoldable pub Print-as-narrow : Type 0
+Print-as-narrow = (input : List ℕ) → print input ≡ narrow-print input
