@@ -12,7 +12,8 @@ use Rattle.log_print.specs.Lines.{line-of}
 
 unfoldable pub narrow-lines : (position : ℕ) → (entries : List ℕ) → List ℕ
 narrow-lines position [] = []
-narrow-lines position (entry ∷ entries) = line-of 4 (position ∷ narrow-kind-of entry ∷ narrow-value-of entry ∷ []) ++ narrow-lines (position + 1) entries
+narrow-lines position (entry ∷ entries) =
+    line-of 4 (position ∷ narrow-kind-of entry ∷ narrow-value-of entry ∷ []) ++ narrow-lines (position + 1) entries
 
 unfoldable pub narrow-reply : Case → (table : List ℕ) → List ℕ
 narrow-reply c table =
