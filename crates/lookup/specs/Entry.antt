@@ -1,5 +1,5 @@
--- A log entry is a 32-bit number: the high sixteen bits are the kind, the low sixteen the value. Nothing else says how the two are
--- packed, but for `Says-the-same` (NarrowEntry.antt), which holds it to the 16-bit entries of before.
+-- A log entry is a 32-bit number: the high sixteen bits are the kind, the low sixteen the value. No code and no other
+-- definition says how the two are packed; the promises `Entry-read-back` and `Wide-as-narrow` hold it to its numbers.
 use Prim.Native.Nat.{ℕ, _+_, _*_, _/_, _%_}
 
 unfoldable pub entry : (kind value : ℕ) → ℕ
