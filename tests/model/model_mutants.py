@@ -272,6 +272,10 @@ MODEL = {
         ("packed(kind, value)", "packed(kind + 1, value)"),
         ("packed(kind, value)", "packed(kind, value % 128)"),
         ("packed(kind, value)", "packed(kind, value * 256)"),
+        # from n = 3 on a program prints a log's checksum alone
+        ("packed(kind, value)", "packed(kind if case.n < 3 else 0, value)"),
+        ("packed(kind, value)", "packed(kind, value if case.n < 3 else 0)"),
+        ("value in pairs]", "value in (pairs if case.n < 3 else pairs[::-1])]"),
         ("[packed(kind, value) for kind, value in pairs]", "[half for pair in pairs for half in pair]"),
         ("value in pairs]", "value in pairs[::-1]]"),
         ("value in pairs]", "value in sorted(pairs)]"),

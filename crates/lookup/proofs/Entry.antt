@@ -6,7 +6,7 @@ use Prim.Native.Nat.{ℕ, _<_}
 use native.Mathlib.Omega.{arith}
 use Rattle.refusals.specs.Tests.{any-from}
 use Rattle.refusals.proofs.Tests.{one-below, none-below}
-use Rattle.lookup.specs.Entry.{entry, kind-of, value-of, entry-limit}
+use Rattle.lookup.specs.Entry.{entry, kind-of, value-of}
 use Rattle.lookup.specs.NarrowEntry.{narrow-entry, narrow-kind-of, narrow-value-of}
 use Rattle.lookup.proofs.Each.{Each, none, more}
 
@@ -31,8 +31,8 @@ pub entry-kind : {kind value : ℕ} → value < 65536 → kind-of (entry kind va
 unfolding entry kind-of
 entry-kind h = omega arith
 
-pub entry-small : {kind value : ℕ} → kind < 65536 → value < 65536 → entry kind value < entry-limit
-unfolding entry entry-limit
+pub entry-small : {kind value : ℕ} → kind < 65536 → value < 65536 → entry kind value < 4294967296
+unfolding entry
 entry-small h k = omega arith
 
 -- a byte has room where sixteen bits are

@@ -11,7 +11,7 @@ use Rattle.bits.proofs.Xor.{xors, below}
 use Rattle.table.specs.Balanced.{at}
 use Rattle.lookup.specs.declared.Case.{Case}
 use Rattle.lookup.specs.Case.{Q}
-use Rattle.lookup.specs.Entry.{entry, kind-of, value-of, entry-limit}
+use Rattle.lookup.specs.Entry.{entry, kind-of, value-of}
 use Rattle.lookup.specs.NarrowEntry.{narrow-entry, narrow-kind-of, narrow-value-of, narrow-log}
 use Rattle.lookup.specs.Layout.{lines}
 use Rattle.lookup.specs.Row.{Row, row-entry, masked}
@@ -105,7 +105,7 @@ unfolding Log-long log-of log-length Q
 log-long table c e =
     let taken = accepted c table e in (
       lines-long (row-entry c table) (Q c) (method-of (c .method) .layout),
-      none-large entry-limit (each-entry entry table c taken (λ a r s. entry-small (byte-fits (s .kind)) (byte-fits (value-byte (taken .1) s)))),
+      none-large 4294967296 (each-entry entry table c taken (λ a r s. entry-small (byte-fits (s .kind)) (byte-fits (value-byte (taken .1) s)))),
     )
 
 pub values-small : Values-small

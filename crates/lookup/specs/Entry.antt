@@ -10,7 +10,3 @@ kind-of e = e / 65536
 
 unfoldable pub value-of : (entry : ℕ) → ℕ
 value-of e = e % 65536
-
--- what an entry is below
-unfoldable pub entry-limit : ℕ
-entry-limit = 4294967296

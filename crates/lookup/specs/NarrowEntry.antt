@@ -21,6 +21,6 @@ narrow-value-of e = e % 256
 unfoldable pub narrow-log : Case → (table : List ℕ) → List ℕ
 narrow-log c table = lines (λ a r. narrow-entry (r .kind) (r .value c table a)) (Q c) (method-of (c .method) .layout)
 
--- an entry has the kind and the value of a narrow one, and the value is below 256
+-- an entry has the kind and the value of a narrow one, and the value is below 256; in numbers, so that neither can be packed otherwise
 abbrev pub Says-the-same : (entry narrow : ℕ) → Type 0
-Says-the-same e narrow = (e / 65536 ≡ narrow-kind-of narrow) × (e % 65536 ≡ narrow-value-of narrow) × (e % 65536 < 256)
+Says-the-same e narrow = (e / 65536 ≡ narrow / 256) × (e % 65536 ≡ narrow % 256) × (e % 65536 < 256)

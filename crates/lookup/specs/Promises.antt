@@ -10,7 +10,7 @@ use Rattle.refusals.specs.Tests.{any-from}
 use Rattle.table.specs.Balanced.{at}
 use Rattle.lookup.specs.declared.Case.{Case}
 use Rattle.lookup.specs.Case.{Q}
-use Rattle.lookup.specs.Entry.{entry, kind-of, value-of, entry-limit}
+use Rattle.lookup.specs.Entry.{entry, kind-of, value-of}
 use Rattle.lookup.specs.NarrowEntry.{narrow-log, Says-the-same}
 use Rattle.lookup.specs.Layout.{lines}
 use Rattle.lookup.specs.Methods.{method-of}
@@ -68,7 +68,7 @@ Lengths-right =
 unfoldable pub Log-long : Type 0
 Log-long =
     (table : List ℕ) (c : Case) → case-refusal c table ≡ 0 →
-    (length (log-of c table) ≡ log-length (c .method) (c .n)) × (any-from entry-limit (log-of c table) ≡ false)
+    (length (log-of c table) ≡ log-length (c .method) (c .n)) × (any-from 4294967296 (log-of c table) ≡ false)
 
 -- each value has the larger of the two widths
 unfoldable pub Values-small : Type 0
@@ -86,7 +86,7 @@ Log-read-back =
 unfoldable pub Entry-read-back : Type 0
 Entry-read-back =
     (kind value : ℕ) → kind < 65536 → value < 65536 →
-    (entry kind value < entry-limit) × (kind-of (entry kind value) ≡ kind) × (value-of (entry kind value) ≡ value)
+    (entry kind value < 4294967296) × (kind-of (entry kind value) ≡ kind) × (value-of (entry kind value) ≡ value)
 
 -- the log tells what it told when its entries were narrow: there are as many, each of which fitted 16 bits, and at each position the entry has
 -- the narrow one's kind and value

@@ -1,6 +1,7 @@
 -- What is counted is what narrow entries show: every choice is accepted, and then each value is the same.
 use Rattle.counting.proofs.Over.{over-ext}
 use Rattle.lookup.specs.Entry.{value-of}
+use Rattle.lookup.specs.NarrowEntry.{narrow-value-of}
 use Rattle.lookup.specs.Promises.{Wide-as-narrow}
 use Rattle.lookup.proofs.Promises.{wide-as-narrow}
 use Rattle.lookup.proofs.Methods.{known-2-or-3}
@@ -11,7 +12,7 @@ use Rattle.secrecy.specs.Promises.{Counts-as-narrow}
 use Rattle.secrecy.proofs.Lent.{choice-taken}
 
 pub counts-as-narrow : Counts-as-narrow
-unfolding Counts-as-narrow Wide-as-narrow count narrow-count shows narrow-shows value-at value-of
+unfolding Counts-as-narrow Wide-as-narrow count narrow-count shows narrow-shows value-at value-of narrow-value-of
 counts-as-narrow table method n m x i j u v e k h =
     over-ext (mask-widths method n m)
     (λ c inside.

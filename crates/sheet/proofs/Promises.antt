@@ -10,7 +10,7 @@ use lib.ListN.{length}
 use Rattle.table.specs.Balanced.{at}
 use Rattle.lookup.specs.declared.Case.{Case}
 use Rattle.lookup.specs.Entry.{kind-of, value-of}
-use Rattle.lookup.specs.NarrowEntry.{narrow-log, Says-the-same}
+use Rattle.lookup.specs.NarrowEntry.{narrow-kind-of, narrow-value-of, narrow-log, Says-the-same}
 use Rattle.lookup.specs.Call.{answer, log-of, log-length}
 use Rattle.lookup.specs.Refusals.{case-refusal}
 use Rattle.lookup.specs.Promises.{Wide-as-narrow}
@@ -24,7 +24,7 @@ use Rattle.sheet.specs.Promises.{Print-as-narrow}
 -- entries that say the same at each position print the same lines
 lines-as-narrow : (position : ℕ) (new old : List ℕ) → length new ≡ length old
     → ((i : ℕ) → Says-the-same (at new i) (at old i)) → entry-lines position new ≡ narrow-lines position old
-unfolding entry-lines narrow-lines kind-of value-of at
+unfolding entry-lines narrow-lines kind-of value-of narrow-kind-of narrow-value-of at
 lines-as-narrow position [] [] e h = refl
 lines-as-narrow position [] (o ∷ os) e h = absurd (omega arith)
 lines-as-narrow position (n ∷ ns) [] e h = absurd (omega arith)
