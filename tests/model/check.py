@@ -10,6 +10,7 @@ import check_leaks
 import check_print
 import check_sbox
 import check_screening
+import check_selection
 import check_small
 import check_tables
 
@@ -21,6 +22,7 @@ PARTS = {
     "sbox": (check_sbox,),
     "screening": (check_screening,),
     "frame": (check_frame,),
+    "selection": (check_selection,),
 }
 
 # How many comparisons each makes: a group that is left out, or that compares nothing, is missed here alone.
@@ -35,6 +37,7 @@ COMPARISONS = {
     check_sbox: 7,
     check_screening: 420,
     check_frame: 467,
+    check_selection: 33429,
 }
 
 

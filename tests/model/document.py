@@ -41,3 +41,11 @@ KINDS = {
 
 # The log's length, for each method and n.
 LENGTHS = {2: {1: 22, 2: 34, 8: 1546}, 3: {1: 28, 2: 46, 8: 2314}}
+
+# The kinds of a log of choosing a half, in order: rows of the source's Table 3, which has no row 24.
+SELECTION_KINDS = [
+    *(1, 2, 3, 11, 4, 5, 6, 7, 8, 9, 10),
+    *(12, 13, 14, 15, 16, 17, 18),
+    *(19, 20, 21, 22, 23, 25, 26),
+    *(27, 28, 29),
+]

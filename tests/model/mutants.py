@@ -13,12 +13,15 @@ import logged_cases
 import model
 import sbox
 import screening
+import selection
+import selection_cases
 from chain_mutants import CHAIN
 from count_mutants import COUNTS
 from edits import edited
 from frame_mutants import FRAME
 from model_mutants import MODEL
 from screening_mutants import SCREENING
+from selection_mutants import SELECTION
 
 # For each function, the edits of its text: a piece of it, and what takes its place.
 SBOX = {
@@ -34,6 +37,10 @@ SBOX = {
 CASES = {
     "model": (logged_cases, ("is_fit", "table_refusal", "logged_call")),
     "chain": (chain_cases, ("following", "chain_refusal", "chained_call")),
+    "selection": (
+        selection_cases,
+        ("LOG_LENGTH", "ROWS", "OTHER_ROWS", "plain_refusal", "logged_refusal", "half", "run", "select", "plain_select"),
+    ),
 }
 
 
@@ -79,7 +86,15 @@ def complaints(module, edits):
 
 
 def main():
-    modules = ((model, MODEL), (counts, COUNTS), (chain, CHAIN), (sbox, SBOX), (screening, SCREENING), (frame, FRAME))
+    modules = (
+        (model, MODEL),
+        (counts, COUNTS),
+        (chain, CHAIN),
+        (sbox, SBOX),
+        (screening, SCREENING),
+        (frame, FRAME),
+        (selection, SELECTION),
+    )
     found = [] if [module.__name__ for module, _ in modules] == list(check.PARTS) else ["other modules are checked than are edited"]
     for module, edits in modules:
         found += [f"{module.__name__}: {complaint}" for complaint in complaints(module, edits)]

@@ -15,6 +15,7 @@ import logged_cases
 import model
 import sbox
 import screening_cases
+import selection_cases
 import sheets
 import small_cases
 
@@ -42,6 +43,7 @@ def made_files():
         **program_files("test_chained_calls", chain_cases),
         **program_files("test_screening", screening_cases),
         **program_files("test_frames", frame_records),
+        **program_files("test_selections", selection_cases),
         **program_files("test_count_sheets", count_cases),
         **print_files("test_case_sheets", [*sheets.all_sheets(), *sheets.small_tables()], model.bench),
         **print_files("test_count_prints", list(count_sheets.all_sheets()), counts.counts),

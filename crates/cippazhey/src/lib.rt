@@ -1,9 +1,10 @@
-// What C links: the plain call as one 16-bit number, refusal × 256 + share, the clearing of a buffer, a frame of AES-128, and the screening
-// of a run of random bytes. include/cippazhey.h declares all four.
+// What C links: the plain call as one 16-bit number, refusal × 256 + share, the choice of one half of a word, the clearing of a buffer, a
+// frame of AES-128, and the screening of a run of random bytes. include/cippazhey.h declares all five.
 use screening::Report;
 ghost use mathlib.Core.Path.{_≡_};
 ghost use lib.ListN.{length, replicate};
 ghost use Rattle.calls.specs.Reply.{case-from, plain-reply, plain-scratch};
+ghost use Rattle.selection.specs.Select.{selection-from, plain-select-refusal, plain-select-share};
 ghost use Rattle.frame.specs.Frame.{frame-refusal, frame-scratch};
 ghost use Rattle.screening.specs.Report.{report};
 ghost use Rattle.cippazhey.specs.Export.{exported, exported-share, exported-report};
@@ -29,6 +30,44 @@ pub extern "C" fn cippazhey_plain_call(
 {
     let called = calls::plain_call(method, n, m, x0, r1, r2, s1, s2, r3, b, table, scratch);
     (called.refusal * 256 + called.share) as u16
+}
+
+#[no_mangle]
+pub extern "C" fn cippazhey_select(
+    width: u32,
+    z0: u32,
+    z1: u32,
+    z2: u32,
+    c0: u32,
+    c1: u32,
+    c2: u32,
+    t1: u32,
+    t2: u32,
+    b: u32,
+    share0: &mut u8,
+    share1: &mut u8,
+    share2: &mut u8,
+) -> u32
+    ensures { λ r. ⌜ r ≡ plain-select-refusal (selection-from width z0 z1 z2 c0 c1 c2 t1 t2 b) ⌝ }
+    ensures { λ _. ⌜ now (share0 .exit) ≡ plain-select-share 0 (selection-from width z0 z1 z2 c0 c1 c2 t1 t2 b) (now (share0 .entry)) ⌝ }
+    ensures { λ _. ⌜ now (share1 .exit) ≡ plain-select-share 1 (selection-from width z0 z1 z2 c0 c1 c2 t1 t2 b) (now (share1 .entry)) ⌝ }
+    ensures { λ _. ⌜ now (share2 .exit) ≡ plain-select-share 2 (selection-from width z0 z1 z2 c0 c1 c2 t1 t2 b) (now (share2 .entry)) ⌝ }
+{
+    selection::plain_select(
+        width,
+        z0,
+        z1,
+        z2,
+        c0,
+        c1,
+        c2,
+        t1,
+        t2,
+        b,
+        share0,
+        share1,
+        share2,
+    )
 }
 
 #[no_mangle]

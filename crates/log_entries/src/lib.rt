@@ -26,7 +26,8 @@ fn wide(value: u8) -> u16
     value as u16
 }
 
-fn entry(kind: u8, value: u16) -> u32
+// An entry of any value of sixteen bits.
+pub fn entry(kind: u8, value: u16) -> u32
     ensures { λ r. ⌜ r ≡ Entry·entry kind value ⌝ }
 {
     (kind as u32) << 16 | value as u32

@@ -1,0 +1,69 @@
+-- What an accepted selection has passed: its bounds, and a log that is long enough.
+use mathlib.Core.Path.{_≡_, sym, _∙_}
+use mathlib.Core.Bool.{true}
+use mathlib.Core.List.{List, [], _∷_, _++_}
+use Prim.Native.Nat.{ℕ, _*_, _^_, _≤_}
+use native.Mathlib.Omega.{arith}
+use borrow.Author.Tests.{ltb-false}
+use lib.Dec.{ltb}
+use lib.ListN.{length}
+use lib.Pow.{pow-mono}
+use Rattle.refusals.specs.Checks.{_when_}
+use Rattle.refusals.specs.Tests.{outside, any-from}
+use Rattle.refusals.proofs.Checks.{passed, passed-both}
+use Rattle.refusals.proofs.Tests.{inside, all-below}
+use Rattle.selection.specs.declared.Selection.{Selection}
+use Rattle.selection.specs.Bounded.{Bounded}
+use Rattle.selection.specs.Select.{width-checks, word-checks, bit-checks, mask-checks, plain-select-refusal, select-refusal}
+use Rattle.selection.proofs.Checking.{all-numbered}
+
+pub plain-bounded : (s : Selection) → plain-select-refusal s ≡ 0 → Bounded s
+unfolding plain-select-refusal width-checks word-checks bit-checks mask-checks
+plain-bounded s e =
+    let width = passed (outside 1 8 (s .width)) 19 _ e in
+    let words = passed (any-from (2 ^ (2 * s .width)) (s .z0 ∷ s .z1 ∷ s .z2 ∷ [])) 20 _ (width .1) in
+    let bits = passed (any-from 2 (s .c0 ∷ s .c1 ∷ s .c2 ∷ s .b ∷ [])) 20 _ (words .1) in
+    let masks = passed (any-from (2 ^ s .width) (s .t1 ∷ s .t2 ∷ [])) 20 [] (bits .1) in
+    let z0 = all-below _ _ _ (words .0) in
+    let z1 = all-below _ _ _ (z0 .1) in
+    let z2 = all-below _ _ _ (z1 .1) in
+    let c0 = all-below _ _ _ (bits .0) in
+    let c1 = all-below _ _ _ (c0 .1) in
+    let c2 = all-below _ _ _ (c1 .1) in
+    let b = all-below _ _ _ (c2 .1) in
+    let t1 = all-below _ _ _ (masks .0) in
+    let t2 = all-below _ _ _ (t1 .1) in
+    let most = inside 1 8 (s .width) (width .0) .1 in
+    record {
+      width-most = most;
+      halves-most = pow-mono most;
+      words-most = pow-mono {j = 16} (omega arith);
+      z0 = z0 .0;
+      z1 = z1 .0;
+      z2 = z2 .0;
+      c0 = c0 .0;
+      c1 = c1 .0;
+      c2 = c2 .0;
+      b = b .0;
+      t1 = t1 .0;
+      t2 = t2 .0;
+    }
+
+-- the list of the call with a log is that of the call without one, and 14
+pub logged-parts : (s : Selection) (lent : List ℕ) → select-refusal s lent ≡ 0 → (plain-select-refusal s ≡ 0) × (28 ≤ length lent)
+unfolding select-refusal plain-select-refusal
+logged-parts s lent e =
+    let both = passed-both (width-checks s ++ word-checks s ++ bit-checks s ++ mask-checks s) (14 when (ltb (length lent) 28) ∷ [])
+    (all-numbered s) e in
+    (both .0, ltb-false _ _ (passed (ltb (length lent) 28) 13 [] (both .1) .0))
+
+module _ (s : Selection) (k : ℕ) where
+  pub told-bounded : k ≡ plain-select-refusal s → k ≡ 0 → Bounded s
+  told-bounded e z = plain-bounded s (sym e ∙ z)
+
+  module _ (lent : List ℕ) (told : k ≡ select-refusal s lent) (z : k ≡ 0) where
+    pub told-logged : Bounded s
+    told-logged = plain-bounded s (logged-parts s lent (sym told ∙ z) .0)
+
+    pub told-long : 28 ≤ length lent
+    told-long = logged-parts s lent (sym told ∙ z) .1

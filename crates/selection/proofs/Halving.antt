@@ -1,0 +1,37 @@
+-- A half as the code takes it: by a shift that the bit chooses, and the lowest bits of what is left.
+use mathlib.Core.Path.{_≡_, refl, sym, _∙_}
+use Prim.Native.Nat.{ℕ, zero, suc, _+_, _-_, _*_, _/_, _%_, _^_, _≤_, _<_}
+use native.Mathlib.Nat.{lt-of-lt-of-le, mul-one, mul-zero, div-one}
+use native.Mathlib.Omega.{arith}
+use mir.Syntax.{w8, w32}
+use mir.Val.{Fits}
+use lib.Bits.{bitAnd, and-mask, mask-lt}
+use lib.Pow.{pow-pos, pow-mono, shr-mod}
+use Rattle.selection.specs.Halves.{half}
+
+pub power-least : (r width : ℕ) → r ≡ 2 ^ width → 1 ≤ r
+power-least r width e = rw e (pow-pos width)
+
+pub shift-most : (width bit : ℕ) → width ≤ 8 → width * (1 - bit) ≤ 8
+shift-most width zero h = rw (mul-one width) h
+shift-most width (suc bit) h =
+    let none : 1 - suc bit ≡ 0 = omega arith in
+    rw (none, mul-zero width) (omega arith)
+
+pub shift-fits : (width bit : ℕ) → width ≤ 8 → Fits w32 (width * (1 - bit))
+shift-fits width bit h = record { fits = omega (arith, shift-most width bit h) }
+
+pub shift-below : (width bit : ℕ) → width ≤ 8 → width * (1 - bit) < 32
+shift-below width bit h = omega (arith, shift-most width bit h)
+
+module _ (r width : ℕ) (e : r ≡ 2 ^ width) where
+  pub low-fits : (shifted : ℕ) → width ≤ 8 → Fits w8 (bitAnd shifted (r - 1))
+  low-fits shifted h = record { fits = rw e (lt-of-lt-of-le (mask-lt shifted width) (pow-mono h)) }
+
+  pub half-shifted : (bit word : ℕ) → bit < 2 → word < 2 ^ (2 * width) → bitAnd (word / 2 ^ (width * (1 - bit))) (r - 1) ≡ half width bit word
+  unfolding half
+  half-shifted zero word h l =
+      let double : 2 * width ≡ width + width = omega arith in
+      rw (e, mul-one width) (and-mask (word / 2 ^ width) width ∙ shr-mod width width (rw double at l))
+  half-shifted (suc zero) word h l = rw (e, mul-zero width, div-one word) (and-mask word width)
+  half-shifted (suc (suc bit)) word h l = absurd (omega arith)

@@ -1,0 +1,8 @@
+-- The laws of a choice of one half, as its code needs them.
+pub mod Checking
+pub mod Accepted
+pub mod Replies
+pub mod Bounds
+pub mod Halving
+pub mod Storing
+pub mod Logging

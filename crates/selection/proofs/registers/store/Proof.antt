@@ -1,0 +1,11 @@
+-- `selection::registers::store` meets its contract.
+use borrow.Author.Needs.{needs}
+use Rattle.selection.proofs.Bounds.{half-byte}
+use Rattle.selection.proofs.Storing.{stored-0, stored-1, stored-2}
+use Rattle.selection.proofs.registers.store.Statement.{statement}
+use Rattle.selection.proofs.registers.store.Tie as tie
+
+pub store-spec : {M : Type 1} → statement M
+store-spec =
+    tie.close
+    (tie.spec (λ c κs. search needs) (λ c. search half-byte) (λ c. search needs) (λ c κs. search needs) (λ c. search half-byte) (λ c. search needs) (λ c κs. search needs) (λ c. search half-byte) (λ c κs. search needs) (λ c. search half-byte) (λ c. search needs) (λ c. (search stored-0, (search stored-1, search stored-2))))

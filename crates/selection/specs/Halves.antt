@@ -1,0 +1,61 @@
+-- One half of a word chosen by a bit, step by step as Algorithm 4 of Rivain, Dottax and Prouff has it: the halves, the registers and the log.
+use mathlib.Core.Bool.{cond}
+use mathlib.Core.List.{List, [], _∷_, _++_}
+use Prim.Native.Nat.{ℕ, zero, suc, _-_, _/_, _%_, _^_}
+use lib.Dec.{eqb}
+use lib.ListN.{set}
+use Rattle.bits.specs.Xor.{_⊕_}
+use Rattle.table.specs.Balanced.{at}
+use Rattle.log_entries.specs.Entries.{entries}
+use Rattle.selection.specs.declared.Selection.{Selection}
+
+-- of a word of twice the width: the high half for the bit 0, the low one for 1
+unfoldable pub half : (width bit word : ℕ) → ℕ
+half width bit word = cond (eqb bit 0) (word / 2 ^ width) (word % 2 ^ width)
+
+-- step 3: the place that the half for c0 goes to in each pair of registers; the other half goes to the other place
+unfoldable pub c3 : Selection → ℕ
+c3 s = (s .c1 ⊕ s .b) ⊕ s .c2
+
+-- what goes to A, B and C: the half of z0, z1 or z2 that a bit chooses, masked
+unfoldable pub masked : (register : ℕ) → Selection → (bit : ℕ) → ℕ
+masked zero s bit = half (s .width) bit (s .z0) ⊕ s .t1
+masked (suc zero) s bit = half (s .width) bit (s .z1) ⊕ s .t2
+masked (suc (suc _)) s bit = (half (s .width) bit (s .z2) ⊕ s .t1) ⊕ s .t2
+
+-- A, B or C, a pair of registers, after steps 4 to 6 and after steps 7 to 9
+unfoldable pub registers : (register : ℕ) → Selection → List ℕ
+registers register s = set (set (0 ∷ 0 ∷ []) (c3 s) (masked register s (s .c0))) (1 - c3 s) (masked register s (1 - s .c0))
+
+-- step 10: the three shares of the half
+unfoldable pub share : (register : ℕ) → Selection → ℕ
+share register s = at (registers register s) (s .b)
+
+-- the shares of the bit, the masks, and what the place is made of
+unfoldable pub bit-values : Selection → List ℕ
+bit-values s = s .c0 ∷ s .c1 ∷ s .c2 ∷ s .t1 ∷ s .t2 ∷ s .b ∷ (s .c1 ⊕ s .b) ∷ c3 s ∷ []
+
+-- the seven values that are made of the half for a bit
+unfoldable pub half-values : Selection → (bit : ℕ) → List ℕ
+half-values s bit =
+    half (s .width) bit (s .z0) ∷ masked 0 s bit
+    ∷ half (s .width) bit (s .z1) ∷ masked 1 s bit
+    ∷ half (s .width) bit (s .z2) ∷ (half (s .width) bit (s .z2) ⊕ s .t1) ∷ masked 2 s bit
+    ∷ []
+
+-- The log, whose kinds are the rows of the source's Table 3, in which row 24 is missing: what the choice is given and makes of the bit; both
+-- halves, first the one for c0; and the shares of the result.
+unfoldable pub input-entries : Selection → List ℕ
+input-entries s =
+    entries (1 ∷ 2 ∷ 3 ∷ []) (s .z0 ∷ s .z1 ∷ s .z2 ∷ []) ++ entries (11 ∷ 4 ∷ 5 ∷ 6 ∷ 7 ∷ 8 ∷ 9 ∷ 10 ∷ []) (bit-values s)
+
+unfoldable pub half-entries : Selection → List ℕ
+half-entries s =
+    entries (12 ∷ 13 ∷ 14 ∷ 15 ∷ 16 ∷ 17 ∷ 18 ∷ []) (half-values s (s .c0))
+    ++ entries (19 ∷ 20 ∷ 21 ∷ 22 ∷ 23 ∷ 25 ∷ 26 ∷ []) (half-values s (1 - s .c0))
+
+unfoldable pub share-entries : Selection → List ℕ
+share-entries s = entries (27 ∷ 28 ∷ 29 ∷ []) (share 0 s ∷ share 1 s ∷ share 2 s ∷ [])
+
+unfoldable pub log-of : Selection → List ℕ
+log-of s = input-entries s ++ half-entries s ++ share-entries s
