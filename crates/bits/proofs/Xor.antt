@@ -1,7 +1,7 @@
 -- The laws of exclusive or: it is associative and commutative, 0 changes nothing, each number undoes itself, and no bit is added.
 -- `simp xors` closes an identity of ⊕.
 use mathlib.Core.Path.{_≡_, refl, sym, _∙_}
-use Prim.Native.Nat.{ℕ, zero, suc, _+_, _*_, _/_, _%_, _^_, _<_}
+use Prim.Native.Nat.{ℕ, zero, suc, _+_, _-_, _*_, _/_, _%_, _^_, _<_}
 use native.Mathlib.Nat.{mod-lt, div-add-mod'}
 use native.Mathlib.Omega.{arith}
 use lib.Dec.{lit<}
@@ -34,14 +34,20 @@ pub zero-r : (a : ℕ) → a ⊕ 0 ≡ a
 unfolding _⊕_
 zero-r = xor-zero-r
 
--- the bits above the lowest, and the lowest bit
-pub half : (a b : ℕ) → (a ⊕ b) / 2 ≡ (a / 2) ⊕ (b / 2)
+-- the bits above the lowest k, and the lowest k
+pub high-bits : (k a b : ℕ) → (a ⊕ b) / 2 ^ k ≡ (a / 2 ^ k) ⊕ (b / 2 ^ k)
 unfolding _⊕_
-half a b = xor-shr a b 1
+high-bits k a b = xor-shr a b k
+
+pub low-bits : (k a b : ℕ) → (a ⊕ b) % 2 ^ k ≡ (a % 2 ^ k) ⊕ (b % 2 ^ k)
+unfolding _⊕_
+low-bits k a b = xor-mod a b k
+
+pub half : (a b : ℕ) → (a ⊕ b) / 2 ≡ (a / 2) ⊕ (b / 2)
+half a b = high-bits 1 a b
 
 pub lowest : (a b : ℕ) → (a ⊕ b) % 2 ≡ (a % 2) ⊕ (b % 2)
-unfolding _⊕_
-lowest a b = xor-mod a b 1
+lowest a b = low-bits 1 a b
 
 pub step : (a b : ℕ) → a ⊕ b ≡ ((a / 2) ⊕ (b / 2)) * 2 + ((a % 2) ⊕ (b % 2))
 step a b = sym (div-add-mod' (a ⊕ b) 2) ∙ rw (half a b, lowest a b)
@@ -82,3 +88,20 @@ below n {a} {b} h k = xor-lt n a b h k
 pub pair : (a b r s : ℕ) → r < 2 → s < 2 → (a * 2 + r) ⊕ (b * 2 + s) ≡ (a ⊕ b) * 2 + (r ⊕ s)
 unfolding _⊕_
 pair a b r s = xor-block 1 a b r s
+
+-- two different bits, and the other bit than one
+pub different-bits : (a b : ℕ) → a < 2 → b < 2 → (a ≡ b → ⊥) → a ⊕ b ≡ 1
+unfolding _⊕_
+different-bits zero zero h k l = absurd (l refl)
+different-bits zero (suc zero) h k l = refl
+different-bits zero (suc (suc b)) h k l = absurd (omega arith)
+different-bits (suc zero) zero h k l = refl
+different-bits (suc zero) (suc zero) h k l = absurd (l refl)
+different-bits (suc zero) (suc (suc b)) h k l = absurd (omega arith)
+different-bits (suc (suc a)) b h k l = absurd (omega arith)
+
+pub other-bit : (a : ℕ) → a < 2 → a ⊕ 1 ≡ 1 - a
+unfolding _⊕_
+other-bit zero h = refl
+other-bit (suc zero) h = refl
+other-bit (suc (suc a)) h = absurd (omega arith)

@@ -1,10 +1,10 @@
 -- The laws of written lists: how one write follows another.
 use mathlib.Core.Path.{_≡_, sym, ap, _∙_}
 use mathlib.Core.List.{List, [], _++_, append-assoc, append-nil}
-use Prim.Native.Nat.{ℕ, _+_, _≤_}
+use Prim.Native.Nat.{ℕ, _+_, _≤_, _<_}
 use native.Mathlib.Nat.{zero-add, add-zero}
 use native.Mathlib.Omega.{arith}
-use lib.ListN.{length, take, drop, length-append, length-drop, take-append-drop}
+use lib.ListN.{length, getD, take, drop, List·getD-append, length-append, length-drop, take-append-drop}
 use lib.Seq.{drop-at, drop-drop, length-take-le, take-at}
 use Rattle.buffers.specs.Written.{written, in-front}
 
@@ -43,3 +43,7 @@ in-front-take new old k e = take-at new _ k e
 pub in-front-drop : (new old : List ℕ) (k : ℕ) → length new ≡ k → drop k (in-front new old) ≡ drop k old
 unfolding in-front
 in-front-drop new old k e = drop-at new _ k e ∙ ap (λ n. drop n old) e
+
+pub in-front-at : (new old : List ℕ) (i : ℕ) → i < length new → getD (in-front new old) i 0 ≡ getD new i 0
+unfolding in-front
+in-front-at new old i h = List·getD-append new (drop (length new) old) 0 i h

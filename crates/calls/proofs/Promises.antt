@@ -2,9 +2,9 @@
 use mathlib.Core.Path.{_≡_}
 use mathlib.Core.List.{List}
 use Prim.Native.Nat.{ℕ, _<_}
-use lib.ListN.{length, drop, List·getD-append}
+use lib.ListN.{length}
 use Rattle.refusals.specs.Left.{left}
-use Rattle.buffers.specs.Written.{in-front}
+use Rattle.buffers.proofs.Written.{in-front-at}
 use Rattle.table.specs.Balanced.{at}
 use Rattle.lookup.specs.declared.Case.{Case}
 use Rattle.lookup.specs.Call.{log-of, log-length}
@@ -15,15 +15,10 @@ use Rattle.lookup.proofs.Promises.{log-long, wide-as-narrow}
 use Rattle.calls.specs.Reply.{logged-log}
 use Rattle.calls.specs.Promises.{Left-as-narrow}
 
--- entries in front are read as they are
-pub in-front-at : (new old : List ℕ) (i : ℕ) → i < length new → at (in-front new old) i ≡ at new i
-unfolding at in-front
-in-front-at new old i h = List·getD-append new (drop (length new) old) 0 i h
-
 -- an entry of the log that is left is that of the log as it is defined
 pub left-at : (table scratch lent : List ℕ) (c : Case) (i : ℕ) → logged-refusal c table scratch lent ≡ 0 → i < log-length (c .method) (c .n)
     → at (logged-log c table scratch lent) i ≡ at (log-of c table) i
-unfolding Log-long logged-log left
+unfolding Log-long logged-log left at
 left-at table scratch lent c i e h =
     let long : length (log-of c table) ≡ log-length (c .method) (c .n) = log-long table c (logged-case c table scratch lent e) .0 in
     rw e (in-front-at (log-of c table) lent i (rw long h))

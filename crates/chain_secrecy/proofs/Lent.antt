@@ -25,7 +25,7 @@ use Rattle.lookup.proofs.Refused.{Clean, scratch-not-refused, log-not-refused, 
 use Rattle.lookup.proofs.Promises.{log-long}
 use Rattle.secrecy.specs.Count.{single, chosen-case, value-at}
 use Rattle.secrecy.proofs.Hiding.{Hiding, hiding}
-use Rattle.calls.proofs.Promises.{in-front-at}
+use Rattle.buffers.proofs.Written.{in-front-at}
 use Rattle.secrecy.proofs.Lent.{choice-taken}
 use Rattle.chain.specs.Lent.{Lent}
 use Rattle.chain.specs.Chain.{second-case, following, chain-refusal, chain-first-log, chain-second-log}
@@ -88,7 +88,7 @@ log-whole c table scratch log e = log-long table c (logged-case c table scratch 
 
 pub left-logs-counted : Left-logs-counted
 unfolding Left-logs-counted left-logs defined-logs entries chain-first-log chain-second-log left following second-case first-case second-own
-    chosen-case
+    chosen-case at
 left-logs-counted l k x c first i h e =
     let whole = chain-passed (first-case k x c) (second-own k c) _ _ _ _ _ _ e in
     let log = log-of (first-case k x c) (l .first-table) in

@@ -41,6 +41,8 @@ module _ (S T : List ℕ) (k : Boxes) where
         before = within-more hx (within-more (small x) (within-more (small′ _) within-none));
         after = within-more hy (within-more (small y) (within-more (small′ _) within-none));
         flag = le-refl 1;
+        halves = refl;
+        bit = refl;
         entries =
             elim [
               | zero ↦ λ h index. small index

@@ -33,6 +33,9 @@ chain-system f g =
       secrets = 0 ∷ 1 ∷ 4 ∷ [];
       tables = record { from = 0; to = 1; output = 1 } ∷ record { from = 1; to = 4; output = 2 } ∷ [];
       flag = 3;
+      word = 2;
+      part = 2;
+      bit = 3;
     }
 
 abbrev pub places : Which → Call-places

@@ -24,7 +24,7 @@ use Rattle.lookup.proofs.Methods.{two-or-three}
 use Rattle.secrecy.specs.Count.{mask-widths, count}
 use Rattle.secrecy.specs.Promises.{Tells-nothing, Choices-counted}
 use Rattle.secrecy.proofs.Promises.{tells-nothing, choices-counted}
-use Rattle.calls.proofs.Promises.{in-front-at}
+use Rattle.buffers.proofs.Written.{in-front-at}
 use Rattle.count_sheet.specs.declared.ProbePair.{ProbePair}
 use Rattle.count_sheet.specs.Refusals.{value-width, pair-checks, buffer-checks, sheet-checks, count-refusal}
 use Rattle.count_sheet.specs.Sheet.{count-for, counts, sheet-left, scratch-left, log-left}
@@ -46,7 +46,7 @@ nothing-else-refused table scratch log sheet p t bytes entries size =
 module _ (table scratch log sheet : List ℕ) (p : ProbePair) (e : count-refusal p table scratch log sheet ≡ 0) where
   entry-is : (i : ℕ) → i < 2 ^ (2 * value-width p)
       → at (sheet-left p table scratch log sheet) i ≡ count-for table p (i / 2 ^ value-width p) (i % 2 ^ value-width p)
-  unfolding sheet-left left counts
+  unfolding sheet-left left counts at
   entry-is i h =
       rw e
       (in-front-at (counts table p) sheet i (rw (tabulate-long (2 ^ (2 * value-width p)) (λ j. count-for table p (j / 2 ^ value-width p) (j % 2 ^ value-width p))) h)

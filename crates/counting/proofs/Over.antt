@@ -6,12 +6,11 @@ use native.Mathlib.Nat.{zero-add, mul-zero}
 use native.Mathlib.Omega.{arith}
 use lib.Pow.{pow-pos, pow-add}
 use Rattle.bits.specs.Xor.{_⊕_}
-use Rattle.bits.proofs.Xor.{zero-l}
 use Rattle.counting.specs.Sum.{sum}
 use Rattle.counting.specs.Choice.{_▸_, over, width, Within, change, total}
 use Rattle.counting.proofs.Sum.{sum-ext, sum-add, sum-const, sum-swap}
 use Rattle.counting.proofs.Shift.{shift}
-use Rattle.counting.proofs.Choice.{within-none, within-more, within-rest, first-rest, change-same, change-at, change-twice}
+use Rattle.counting.proofs.Choice.{within-none, within-more, first-rest, change-same, change-at, change-twice}
 
 -- equal terms make equal sums
 pub over-ext : (ws : List ℕ) {f g : (ℕ → ℕ) → ℕ} → ((c : ℕ → ℕ) → Within ws c → f c ≡ g c) → over ws f ≡ over ws g
@@ -43,14 +42,26 @@ over-local (w ∷ ws) zero f g h =
 over-local (w ∷ ws) (suc i) f g h =
     sum-ext (2 ^ w) (λ r l. over-local ws i (λ c. f (r ▸ c)) (λ c. g (r ▸ c)) (λ c k. h (r ▸ c) (within-more l k)))
 
--- all masks shifted, each by a number of its width: a shifted choice is its first mask shifted, and the rest shifted
-pub over-shift : (ws : List ℕ) (f : (ℕ → ℕ) → ℕ) (d : ℕ → ℕ) → Within ws d → over ws (λ c. f (λ i. c i ⊕ d i)) ≡ over ws f
+-- Each mask's numbers are put in another order, which changes no sum over them. Past the widths there is only 0, and it stays.
+abbrev pub Reorders : (width : ℕ) → (order : ℕ → ℕ) → Type 0
+Reorders w order = (g : ℕ → ℕ) → sum (2 ^ w) (λ r. g (order r)) ≡ sum (2 ^ w) g
+
+none-reordered : (order : ℕ → ℕ) → Reorders 0 order → order 0 ≡ 0
+unfolding sum
+none-reordered order h = omega (arith, h (λ r. r))
+
+pub over-reordered : (ws : List ℕ) (f : (ℕ → ℕ) → ℕ) (orders : ℕ → ℕ → ℕ) → ((i : ℕ) → Reorders (width ws i) (orders i))
+    → over ws (λ c. f (λ i. orders i (c i))) ≡ over ws f
 unfolding over width
-over-shift [] f d k = ap f (fun-ext (λ i. zero-l (d i) ∙ omega (arith, k .each i)))
-over-shift (w ∷ ws) f d k =
-    sum-ext (2 ^ w) (λ r _. over-ext ws (λ c _. ap f (sym (first-rest (λ i. (r ▸ c) i ⊕ d i))))
-    ∙ over-shift ws (λ c. f (r ⊕ d 0 ▸ c)) (λ i. d (suc i)) (within-rest k))
-    ∙ shift w (λ r. over ws (λ c. f (r ▸ c))) (k .each 0)
+over-reordered [] f orders h = ap f (fun-ext (λ i. none-reordered (orders i) (h i)))
+over-reordered (w ∷ ws) f orders h =
+    sum-ext (2 ^ w) (λ r _. over-ext ws (λ c _. ap f (sym (first-rest (λ i. orders i ((r ▸ c) i)))))
+    ∙ over-reordered ws (λ c. f (orders 0 r ▸ c)) (λ i. orders (suc i)) (λ i. h (suc i)))
+    ∙ h 0 (λ r. over ws (λ c. f (r ▸ c)))
+
+-- all masks shifted, each by a number of its width
+pub over-shift : (ws : List ℕ) (f : (ℕ → ℕ) → ℕ) (d : ℕ → ℕ) → Within ws d → over ws (λ c. f (λ i. c i ⊕ d i)) ≡ over ws f
+over-shift ws f d k = over-reordered ws f (λ i r. r ⊕ d i) (λ i g. shift (width ws i) g (k .each i))
 
 -- one mask shifted
 pub over-shift-one : (ws : List ℕ) (i : ℕ) (f : (ℕ → ℕ) → ℕ) {d : ℕ} → d < 2 ^ width ws i

@@ -27,10 +27,19 @@ abbrev leak : (w0 w1 w2 w3 flag input answer : ℕ) → (one other : Expression)
 leak w0 w1 w2 w3 flag input answer one other =
     record { widths = w0 ∷ w1 ∷ w2 ∷ w3 ∷ []; flag = flag; input = input; answer = answer; one = one; other = other }
 
--- three masks for an input, two for an answer and one of a class of its own; the input and the answer, its entry in the one table, are secret
+-- three masks for an input, two for an answer and one of a class of its own; the input and the answer, its entry in the one table, are secret;
+-- there are no halves
 abbrev pub system : (flag : ℕ) → System
 system flag =
-    record { masks = 0 ∷ 0 ∷ 0 ∷ 1 ∷ 1 ∷ 2 ∷ []; secrets = 0 ∷ 1 ∷ []; tables = record { from = 0; to = 1; output = 1 } ∷ []; flag = flag }
+    record {
+      masks = 0 ∷ 0 ∷ 0 ∷ 1 ∷ 1 ∷ 2 ∷ [];
+      secrets = 0 ∷ 1 ∷ [];
+      tables = record { from = 0; to = 1; output = 1 } ∷ [];
+      flag = flag;
+      word = 4;
+      part = 4;
+      bit = 2;
+    }
 
 -- an even table, 0 past its end; a table that is not among the system's may hold anything, here 2z
 entry-of : (widths : List ℕ) → (table z : ℕ) → ℕ

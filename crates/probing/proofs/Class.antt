@@ -1,16 +1,16 @@
 -- An expression of a class is a number of that class's width.
-use mathlib.Core.Bool.{Bool, true, false, cond}
+use mathlib.Core.Bool.{Bool, true, false, cond, _&&_}
 use mathlib.Core.List.{List, [], _∷_}
-use Prim.Native.Nat.{ℕ, zero, suc, _^_, _≤_, _<_}
+use Prim.Native.Nat.{ℕ, zero, suc, _+_, _/_, _%_, _^_, _≤_, _<_}
 use native.Mathlib.Nat.{mod-lt, le-trans}
 use mir.Facts.{and-yes}
 use lib.Dec.{T, eqb, ltb, eqb→eq, ltb→lt}
 use lib.ListN.{length, getD}
-use lib.Pow.{pow-pos, pow-mono}
+use lib.Pow.{pow-pos, pow-mono, shr-lt}
 use Rattle.bits.proofs.Xor.{below}
 use Rattle.counting.specs.Choice.{width}
 use Rattle.counting.proofs.Choice.{within-rest}
-use Rattle.probing.specs.Expression.{Expression, secret, mask, number, _⊞_, lookup, differ, System, Setting, table, value}
+use Rattle.probing.specs.Expression.{Expression, secret, mask, number, _⊞_, lookup, differ, half, System, Setting, table, value}
 use Rattle.probing.specs.Alike.{Valid, Known}
 use Rattle.probing.specs.Test.{of-class}
 
@@ -27,6 +27,11 @@ flag-below : (same : Bool) (w : ℕ) → 1 ≤ w → cond same 0 1 < 2 ^ w
 flag-below true w h = pow-pos w
 flag-below false w h = pow-mono h
 
+-- a half of a word that is twice as wide
+half-below : (high : Bool) (l w : ℕ) → w < 2 ^ (l + l) → cond high (w / 2 ^ l) (w % 2 ^ l) < 2 ^ l
+half-below true l w h = shr-lt l l h
+half-below false l w h = mod-lt w (pow-pos l)
+
 module _ (system : System) (setting : Setting) {hs ts : ℕ → ℕ} (known : Known system setting hs ts) {vs c : ℕ → ℕ}
     (valid : Valid setting (system .secrets) vs) (within : Valid setting (system .masks) c) where
   pub class-below : (class : ℕ) (e : Expression) → T (of-class system class e) → value setting vs c e < 2 ^ setting .width class
@@ -42,3 +47,9 @@ module _ (system : System) (setting : Setting) {hs ts : ℕ → ℕ} (known : Kn
       rw (eqb→eq (table system n .to) class (both .1)) at (known .entries n (ltb→lt _ _ (both .0)) (value setting vs c e))
   class-below class (differ e f) t =
       rw (← eqb→eq (system .flag) class t) (flag-below (eqb (value setting vs c e) (value setting vs c f)) _ (known .flag))
+  class-below class (half k s w) t =
+      let both = and-yes (eqb k class) (eqb (system .part) k && of-class system (system .word) w) t in
+      let parts = and-yes (eqb (system .part) k) (of-class system (system .word) w) (both .1) in
+      rw (← eqb→eq k class (both .0), ← eqb→eq (system .part) k (parts .0))
+      (half-below (eqb (value setting vs c s) 0) (setting .width (system .part)) (value setting vs c w)
+      (rw (known .halves) at (class-below (system .word) w (parts .1))))

@@ -1,11 +1,11 @@
 -- The leak test on a small system: pairs that pass, and what passing says for one table.
-use mathlib.Core.Path.{sym, ap, _∙_}
-use mathlib.Core.Bool.{cond}
+use mathlib.Core.Path.{refl, sym, ap, _∙_}
 use mathlib.Core.List.{List, [], _∷_}
 use Prim.Native.Nat.{ℕ, zero, suc, _%_, _^_, _<_}
 use native.Mathlib.Nat.{mod-lt, mod-eq-of-lt, le-refl}
 use native.Mathlib.Omega.{arith}
-use lib.Dec.{T, eqb}
+use lib.Dec.{T}
+use lib.ListN.{getD}
 use lib.Pow.{pow-pos}
 use Rattle.bits.specs.Xor.{_⊕_}
 use Rattle.bits.proofs.Xor.{below}
@@ -58,7 +58,7 @@ all-pairs a a' = tt
 
 -- the table of n bits in which each index is its own entry
 abbrev setting : (n : ℕ) → Setting
-setting n = record { width = λ class. cond (eqb class 2) 1 n; tables = λ t z. z % 2 ^ n }
+setting n = record { width = λ class. getD (n ∷ n ∷ 1 ∷ []) class 0; tables = λ t z. z % 2 ^ n }
 
 same-even : (n : ℕ) {d : ℕ} → d < 2 ^ n → Even-for (2 ^ n) (λ z. z % 2 ^ n) d
 same-even n {d} h g =
@@ -70,6 +70,8 @@ known n x y h l =
       before = within-more h (within-more h within-none);
       after = within-more l (within-more l within-none);
       flag = le-refl 1;
+      halves = refl;
+      bit = refl;
       entries = elim [ zero ↦ λ b z. mod-lt z (pow-pos n) | suc t ↦ λ b. absurd (omega arith) ];
       even = elim [ zero ↦ λ b. same-even n (below n h l) | suc t ↦ λ b. absurd (omega arith) ];
     }

@@ -9,7 +9,7 @@ use Rattle.bits.specs.Xor.{_⊕_}
 use Rattle.bits.proofs.Xor.{xors, assoc, comm, zero-r}
 use Rattle.counting.specs.Choice.{change}
 use Rattle.counting.proofs.Choice.{change-at, change-same}
-use Rattle.probing.specs.Expression.{Expression, secret, mask, number, _⊞_, lookup, differ, Setting, value}
+use Rattle.probing.specs.Expression.{Expression, secret, mask, number, _⊞_, lookup, differ, half, Setting, value}
 use Rattle.probing.specs.Test.{absent, Standing, added, indexing, otherwise, looked-up, standing}
 use Rattle.probing.proofs.Bool.{not-false}
 use Rattle.probing.proofs.Change.{changed}
@@ -31,6 +31,9 @@ module _ (setting : Setting) (vs : ℕ → ℕ) (i : ℕ) (c : ℕ → ℕ) wher
   absent-value r (differ e f) t =
       let both = and-yes (absent i e) (absent i f) t in
       ap₂ (λ u v. cond (eqb u v) 0 1) (absent-value r e (both .0)) (absent-value r f (both .1))
+  absent-value r (half k s w) t =
+      let both = and-yes (absent i s) (absent i w) t in
+      rw (absent-value r s (both .0), absent-value r w (both .1))
 
   -- as the mask changes, e shows what the shape says, and something added that stays
   abbrev pub Plus : (shape : ℕ → ℕ) → Expression → Type 0
@@ -75,6 +78,7 @@ module _ (setting : Setting) (vs : ℕ → ℕ) (i : ℕ) (c : ℕ → ℕ) wher
       shows-by-cases p q false false h k = tt
   shows (lookup n e) = looked n e (standing i e) (shows e)
   shows (differ e f) = tt
+  shows (half k s w) = tt
 
   -- what is added to the mask, from the whole
   pub rest-is : (e : Expression) (p : Plus (λ r. r) e) → p .0 ≡ c i ⊕ value setting vs c e

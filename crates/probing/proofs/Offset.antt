@@ -11,7 +11,7 @@ use lib.ListN.{getD}
 use Rattle.bits.specs.Xor.{_⊕_}
 use Rattle.bits.proofs.Xor.{xors, zero-r}
 use Rattle.counting.specs.Choice.{change}
-use Rattle.probing.specs.Expression.{Expression, secret, mask, number, _⊞_, lookup, differ, Setting, value}
+use Rattle.probing.specs.Expression.{Expression, secret, mask, number, _⊞_, lookup, differ, half, Setting, value}
 use Rattle.probing.specs.Test.{off, tracked, off-by}
 use Rattle.probing.proofs.Bool.{beq-same, not-false}
 use Rattle.probing.proofs.Change.{changed}
@@ -63,6 +63,15 @@ module _ (setting : Setting) (j : ℕ) (shift : List Bool) (vs : ℕ → ℕ) (v
       ap₂ (λ a b. cond (eqb a b) 0 1) (rw (beq-same (off j shift e) (off j shift f) (all .1)) at (off-value e (both .0)))
       (off-value f (both .1))
       ∙ rw alike-off (sym (zero-r _))
+  off-value (half k s w) t =
+      let both = and-yes (tracked j shift s && not (off j shift s)) (tracked j shift w && not (off j shift w)) t in
+      let bit = and-yes (tracked j shift s) (not (off j shift s)) (both .0) in
+      let word = and-yes (tracked j shift w) (not (off j shift w)) (both .1) in
+      let bit-kept : value setting (change j v vs) (λ i. c i ⊕ shifting shift (vs j ⊕ v) i) s ≡ value setting vs c s
+      = off-value s (bit .0) ∙ rw (not-false (off j shift s) (bit .1)) (zero-r _) in
+      let word-kept : value setting (change j v vs) (λ i. c i ⊕ shifting shift (vs j ⊕ v) i) w ≡ value setting vs c w
+      = off-value w (word .0) ∙ rw (not-false (off j shift w) (word .1)) (zero-r _) in
+      rw (bit-kept, word-kept) (sym (zero-r _))
 
   pub off-by-value : (put-off : Bool) (e : Expression) → T (off-by j shift put-off e)
       → value setting (change j v vs) (λ i. c i ⊕ shifting shift (vs j ⊕ v) i) e ≡ value setting vs c e ⊕ cond put-off (vs j ⊕ v) 0

@@ -2,23 +2,23 @@
 use mathlib.Core.Path.{_≡_, sym, ap₂, _∙_}
 use mathlib.Core.Bool.{Bool, true, false, cond, _&&_, _||_}
 use mathlib.Core.Logic.{inl, inr}
-use Prim.Native.Nat.{ℕ, _^_}
+use Prim.Native.Nat.{ℕ, _^_, _<_}
 use mir.Facts.{and-yes, or-yes}
 use lib.Dec.{T, eqb, ltb, eqb→eq, ltb→lt}
 use lib.ListN.{length}
 use Rattle.bits.specs.Xor.{_⊕_}
 use Rattle.bits.proofs.Xor.{below, zero-r}
 use Rattle.counting.specs.Choice.{width, change}
-use Rattle.counting.proofs.Over.{over-ext, over-shift}
 use Rattle.probing.specs.Expression.{Expression, mask, System, Setting, table, value}
 use Rattle.probing.specs.Alike.{widths, Valid, seen, Alike, Even-for, Known}
 use Rattle.probing.specs.Test.{off-by, shiftable, of-class, absent, Standing, added}
-use Rattle.probing.specs.Test.{indexing, otherwise, standing, leads, covered, masked, unseen}
+use Rattle.probing.specs.Test.{indexing, otherwise, standing, leads, covered, masked, exchangeable, unseen}
 use Rattle.probing.proofs.Change.{within-change}
-use Rattle.probing.proofs.Offset.{off-by-value}
+use Rattle.probing.proofs.Shift.{moved, kept}
 use Rattle.probing.proofs.Masks.{Shows, shows}
+use Rattle.probing.proofs.Exchange.{exchanged-alike}
 use Rattle.probing.proofs.Cover.{replaced, evened}
-use Rattle.probing.proofs.Search.{some-place-found, some-shift-found}
+use Rattle.probing.proofs.Search.{some-place-found}
 
 -- the secret at place j, of the class, is changed from hs j to ts j
 module _ (system : System) (setting : Setting) {hs ts : ℕ → ℕ} (known : Known system setting hs ts)
@@ -27,21 +27,8 @@ module _ (system : System) (setting : Setting) {hs ts : ℕ → ℕ} (known : Kn
   abbrev vs' : ℕ → ℕ
   vs' = change j (ts j) vs
 
-  -- some shift keeps f, and keeps e or puts it off by the difference
-  moved : (put-off : Bool) (e f : Expression) → T (shiftable system j class put-off e f) → (g : ℕ → ℕ → ℕ)
-      → seen system setting vs' g e f ≡ seen system setting vs (λ x y. g (x ⊕ cond put-off (vs j ⊕ ts j) 0) y) e f
-  unfolding shiftable
-  moved put-off e f t g =
-      let found
-      = some-shift-found setting class (vs j ⊕ ts j) (rw (← size) (below _ (valid .each j) (known .after .each j))) (system .masks) _ t in
-      let both = and-yes (off-by j (found .0) put-off e) (off-by j (found .0) false f) (found .2) in
-      let value-of = off-by-value setting j (found .0) vs (ts j) in
-      sym (over-shift _ (λ c. g (value setting vs' c e) (value setting vs' c f)) _ (found .1))
-      ∙ over-ext _ (λ c _. ap₂ g (value-of c put-off e (both .0)) (value-of c false f (both .1) ∙ zero-r _))
-
-  -- the shift rule
-  kept : (e f : Expression) → T (shiftable system j class false e f) → Alike system setting vs vs' e f
-  kept e f t g = sym (moved false e f t g ∙ simp zero-r)
+  abbrev small : ts j < 2 ^ width (widths setting (system .secrets)) j
+  small = known .after .each j
 
   -- the difference is one of two entries of a table that leads to the secret
   even-here : (n k : ℕ) → T (leads system n k j) → Even-for (2 ^ setting .width k) (setting .tables n) (vs j ⊕ ts j)
@@ -60,13 +47,13 @@ module _ (system : System) (setting : Setting) {hs ts : ℕ → ℕ} (known : Kn
     covered-alike added p u g =
         let both = and-yes (of-class system k e) (shiftable system j class false (mask i) f) u in
         replaced system setting known valid i k wide f t e (both .0) (p vs) g
-        ∙ kept (mask i) f (both .1) g
+        ∙ kept system setting valid j class size (ts j) small (mask i) f (both .1) g
         ∙ sym (replaced system setting known (within-change j (known .after .each j) valid) i k wide f t e (both .0) (p vs') g)
     covered-alike (indexing n index) p u g =
         let all = and-yes (leads system n k j && of-class system k index) (shiftable system j class true e f) u in
         let both = and-yes (leads system n k j) (of-class system k index) (all .0) in
         sym
-        (moved true e f (all .1) g
+        (moved system setting valid j class size (ts j) small true e f (all .1) g
         ∙ evened system setting known valid i k wide f t n index e (both .1) (p vs) (vs j ⊕ ts j) (even-here n k (both .0)) g)
     covered-alike otherwise p u g = absurd u
 
@@ -79,12 +66,18 @@ module _ (system : System) (setting : Setting) {hs ts : ℕ → ℕ} (known : Kn
       let both = and-yes (absent i f) (covered system j class i k e f (standing i e)) (found .1 .2) in
       covered-alike i k (found .1 .1) e f (both .0) (standing i e) (λ us c. shows setting us i c e) (both .1)
 
-  -- an observer of f and e sees what one of e and f does
   pub unseen-alike : (e f : Expression) → T (unseen system j class e f) → Alike system setting vs vs' e f
   unfolding unseen
   unseen-alike e f t =
-      elim (or-yes (shiftable system j class false e f || masked system j class e f) (masked system j class f e) t) [
-        | inl h ↦ elim (or-yes (shiftable system j class false e f)
-            (masked system j class e f) h) [ inl h ↦ kept e f h | inr h ↦ masked-alike e f h ]
-        | inr h ↦ λ observer. masked-alike f e h (λ x y. observer y x)
+      let shifted = shiftable system j class false e f in
+      let one = masked system j class e f in
+      let other = masked system j class f e in
+      elim (or-yes (shifted || one || other) (exchangeable system j class e f) t) [
+        | inl h ↦ elim (or-yes (shifted || one) other h) [
+          | inl h ↦ elim (or-yes shifted one h)
+              [ inl h ↦ kept system setting valid j class size (ts j) small e f h | inr h ↦ masked-alike e f h ]
+          -- an observer of f and e sees what one of e and f does
+          | inr h ↦ λ observer. masked-alike f e h (λ x y. observer y x)
+        ]
+        | inr h ↦ exchanged-alike system setting known valid j class size (ts j) small e f h
       ]

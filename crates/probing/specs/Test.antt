@@ -5,11 +5,11 @@
 -- beside itself. The test reads the class of a public number and never its value, which may be a variable. It may fail where nothing
 -- leaks.
 use mathlib.Core.Bool.{Bool, true, false, cond, not, _&&_, _||_, Bool·beq, xor}
-use mathlib.Core.List.{List}
-use Prim.Native.Nat.{ℕ}
+use mathlib.Core.List.{List, [], _∷_}
+use Prim.Native.Nat.{ℕ, zero, suc}
 use lib.Dec.{eqb, ltb}
 use lib.ListN.{length, getD}
-use Rattle.probing.specs.Expression.{Expression, secret, mask, number, _⊞_, lookup, differ, System, table}
+use Rattle.probing.specs.Expression.{Expression, secret, mask, number, _⊞_, lookup, differ, half, System, table}
 use Rattle.probing.specs.Search.{some-shift, some-place, each-place, every}
 
 -- One secret, at place j, is changed, and a shift adds the difference of its two values to some of the masks.
@@ -22,8 +22,10 @@ off j shift (number class a) = false
 off j shift (e ⊞ f) = xor (off j shift e) (off j shift f)
 off j shift (lookup t e) = false
 off j shift (differ e f) = false
+off j shift (half k s w) = false
 
--- and whether that can be told: of a lookup only if its index is kept, of a comparison only if both sides are off or both are kept
+-- and whether that can be told: of a lookup only if its index is kept, of a comparison only if both sides are off or both are kept, of a half
+-- only if its bit and its word are kept
 unfoldable pub tracked : (place : ℕ) (shift : List Bool) → Expression → Bool
 unfolding off
 tracked j shift (secret k) = true
@@ -32,6 +34,7 @@ tracked j shift (number class a) = true
 tracked j shift (e ⊞ f) = tracked j shift e && tracked j shift f
 tracked j shift (lookup t e) = tracked j shift e && not (off j shift e)
 tracked j shift (differ e f) = tracked j shift e && tracked j shift f && Bool·beq (off j shift e) (off j shift f)
+tracked j shift (half k s w) = (tracked j shift s && not (off j shift s)) && (tracked j shift w && not (off j shift w))
 
 unfoldable pub off-by : (place : ℕ) (shift : List Bool) (put-off : Bool) → Expression → Bool
 unfolding tracked
@@ -50,6 +53,7 @@ of-class system class (number k a) = eqb k class
 of-class system class (e ⊞ f) = of-class system class e && of-class system class f
 of-class system class (lookup t e) = ltb t (length (system .tables)) && eqb (table system t .to) class
 of-class system class (differ e f) = eqb (system .flag) class
+of-class system class (half k s w) = eqb k class && (eqb (system .part) k && of-class system (system .word) w)
 
 unfoldable pub absent : (place : ℕ) → Expression → Bool
 absent i (secret j) = true
@@ -58,6 +62,7 @@ absent i (number class a) = true
 absent i (e ⊞ f) = absent i e && absent i f
 absent i (lookup t e) = absent i e
 absent i (differ e f) = absent i e && absent i f
+absent i (half k s w) = absent i s && absent i w
 
 -- how a mask stands in a sum: in one summand only, which is the mask itself, or which looks up an index to which the mask is added
 pub data Standing : Type 0 where
@@ -78,6 +83,7 @@ standing i (number class a) = otherwise
 standing i (e ⊞ f) = cond (absent i f) (standing i e) (cond (absent i e) (standing i f) otherwise)
 standing i (lookup t e) = looked-up t e (standing i e)
 standing i (differ e f) = otherwise
+standing i (half k s w) = otherwise
 
 -- the table's index is of the class, and the secret at place j is one of its entries
 unfoldable pub leads : System → (table class place : ℕ) → Bool
@@ -104,13 +110,67 @@ masked system j class e f =
     let rule = covered system j class i k e f (standing i e) in
     absent i f && rule)
 
--- whether a change of one secret is unseen: by a shift, or by one of the two rules with e and f either way round
+-- The rule of halves, where the secret at place j is a bit. It is flipped, and the two halves of every word, mask or other secret, are
+-- exchanged.
+-- Whether the number at a place is such a word,
+unfoldable pub is-word : System → (classes : List ℕ) → (place : ℕ) → Bool
+is-word system [] i = false
+is-word system (k ∷ ks) zero = eqb k (system .word)
+is-word system (k ∷ ks) (suc i) = is-word system ks i
+
+-- whether an expression reads none, so that of the change it sees only the bit's,
+unfoldable pub wordless : System → (place : ℕ) → Expression → Bool
+unfolding is-word
+wordless system j (secret k) = eqb k j || not (is-word system (system .secrets) k)
+wordless system j (mask i) = not (is-word system (system .masks) i)
+wordless system j (number class a) = true
+wordless system j (e ⊞ f) = wordless system j e && wordless system j f
+wordless system j (lookup t e) = wordless system j e
+wordless system j (differ e f) = wordless system j e && wordless system j f
+wordless system j (half k s w) = false
+
+-- and whether it is a sum of them, so that its halves are exchanged;
+unfoldable pub wordy : System → (place : ℕ) → Expression → Bool
+unfolding is-word
+wordy system j (secret k) = not (eqb k j) && is-word system (system .secrets) k
+wordy system j (mask i) = is-word system (system .masks) i
+wordy system j (number class a) = false
+wordy system j (e ⊞ f) = wordy system j e && wordy system j f
+wordy system j (lookup t e) = false
+wordy system j (differ e f) = false
+wordy system j (half k s w) = false
+
+-- the expression is a bit that is flipped, so that of an exchanged word it chooses the same number;
+unfoldable pub flipped : System → (place : ℕ) → Expression → Bool
+unfolding wordless off-by of-class
+flipped system j s = wordless system j s && off-by j [] true s && of-class system (system .bit) s
+
+-- and so the expression keeps its value
+unfoldable pub turned : System → (place : ℕ) → Expression → Bool
+unfolding is-word wordy flipped
+turned system j (secret k) = not (eqb k j) && not (is-word system (system .secrets) k)
+turned system j (mask i) = not (is-word system (system .masks) i)
+turned system j (number class a) = true
+turned system j (e ⊞ f) = turned system j e && turned system j f
+turned system j (lookup t e) = turned system j e
+turned system j (differ e f) = turned system j e && turned system j f
+turned system j (half k s w) = eqb k (system .part) && flipped system j s && wordy system j w
+
+-- Both expressions keep their values; and each other secret whose halves were exchanged is changed back by a shift.
+unfoldable pub exchangeable : System → (place class : ℕ) → Expression → Expression → Bool
+unfolding turned is-word shiftable each-place
+exchangeable system j class e f =
+    let words-back = each-place (system .secrets) (λ k c. not (is-word system (system .secrets) k) || shiftable system k c false e f) in
+    eqb class (system .bit) && turned system j e && turned system j f && words-back
+
+-- whether a change of one secret is unseen: by a shift, by one of the two rules for a mask with e and f either way round, or by halves
 unfoldable pub unseen : System → (place class : ℕ) → Expression → Expression → Bool
-unfolding masked
+unfolding masked exchangeable
 unseen system j class e f =
     let first = masked system j class e f in
     let second = masked system j class f e in
-    shiftable system j class false e f || first || second
+    let third = exchangeable system j class e f in
+    shiftable system j class false e f || first || second || third
 
 -- if so for each secret, then so for all of them, one after the other
 unfoldable pub fine : System → Expression → Expression → Bool

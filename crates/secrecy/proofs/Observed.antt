@@ -1,5 +1,5 @@
 -- What stands at a position of a log is what its line's expression shows, so lines that are alike count equally.
-use mathlib.Core.Path.{_≡_, sym, ap, _∙_}
+use mathlib.Core.Path.{_≡_, refl, sym, ap, _∙_}
 use mathlib.Core.Bool.{cond, _&&_}
 use mathlib.Core.List.{List}
 use Prim.Native.Nat.{ℕ, zero, suc, _^_, _<_}
@@ -73,6 +73,8 @@ module _ (table : List ℕ) (n m : ℕ) where
         before = within-more hx (within-more (small x) within-none);
         after = within-more hy (within-more (small y) within-none);
         flag = le-refl 1;
+        halves = refl;
+        bit = refl;
         entries = elim [ zero ↦ λ h index. small index | suc t ↦ λ h index. absurd (not-suc-le-zero (le-of-suc-le-suc h)) ];
         even =
             elim [

@@ -84,9 +84,18 @@ module _ (s : Call-places) where
 abbrev pub nothing : Expression
 nothing = number 0 0
 
--- a single call: masks of the classes that its method draws, the secrets x and S[x], and one table
+-- a single call: masks of the classes that its method draws, the secrets x and S[x], and one table; no word of it has halves
 abbrev pub system : (masks : List ℕ) → System
-system masks = record { masks = masks; secrets = 0 ∷ 1 ∷ []; tables = record { from = 0; to = 1; output = 1 } ∷ []; flag = 3 }
+system masks =
+    record {
+      masks = masks;
+      secrets = 0 ∷ 1 ∷ [];
+      tables = record { from = 0; to = 1; output = 1 } ∷ [];
+      flag = 3;
+      word = 2;
+      part = 2;
+      bit = 3;
+    }
 
 abbrev pub alone : Mask-places → Call-places
 alone places = record { masks = places; x = 0; output = 1; table = 0; class = 0 }

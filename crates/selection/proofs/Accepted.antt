@@ -1,4 +1,4 @@
--- What an accepted selection has passed: its bounds, and a log that is long enough.
+-- What an accepted selection has passed: its bounds, and a log that is long enough; and that nothing else is refused.
 use mathlib.Core.Path.{_≡_, sym, _∙_}
 use mathlib.Core.Bool.{true}
 use mathlib.Core.List.{List, [], _∷_, _++_}
@@ -10,8 +10,8 @@ use lib.ListN.{length}
 use lib.Pow.{pow-mono}
 use Rattle.refusals.specs.Checks.{_when_}
 use Rattle.refusals.specs.Tests.{outside, any-from}
-use Rattle.refusals.proofs.Checks.{passed, passed-both}
-use Rattle.refusals.proofs.Tests.{inside, all-below}
+use Rattle.refusals.proofs.Checks.{goes, none-applies, passed, passed-both}
+use Rattle.refusals.proofs.Tests.{inside, not-outside, all-below, one-below, none-below}
 use Rattle.selection.specs.declared.Selection.{Selection}
 use Rattle.selection.specs.Bounded.{Bounded}
 use Rattle.selection.specs.Select.{width-checks, word-checks, bit-checks, mask-checks, plain-select-refusal, select-refusal}
@@ -48,6 +48,16 @@ plain-bounded s e =
       t1 = t1 .0;
       t2 = t2 .0;
     }
+
+-- and a selection within its bounds, whose width is not 0, passes them
+pub not-refused : (s : Selection) → 1 ≤ s .width → Bounded s → plain-select-refusal s ≡ 0
+unfolding plain-select-refusal width-checks word-checks bit-checks mask-checks
+not-refused s least k =
+    sym
+    (goes 20 _ (not-outside least (k .width-most))
+    (goes 21 _ (one-below _ _ _ (k .z0) (one-below _ _ _ (k .z1) (one-below _ _ _ (k .z2) (none-below _))))
+    (goes 21 _ (one-below _ _ _ (k .c0) (one-below _ _ _ (k .c1) (one-below _ _ _ (k .c2) (one-below _ _ _ (k .b) (none-below _)))))
+    (goes 21 _ (one-below _ _ _ (k .t1) (one-below _ _ _ (k .t2) (none-below _))) none-applies))))
 
 -- the list of the call with a log is that of the call without one, and 14
 pub logged-parts : (s : Selection) (lent : List ℕ) → select-refusal s lent ≡ 0 → (plain-select-refusal s ≡ 0) × (28 ≤ length lent)

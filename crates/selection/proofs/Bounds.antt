@@ -20,6 +20,10 @@ bits-below h k = below 1 h k
 pub bits-byte : {v u : ℕ} → v < 2 → u < 2 → Fits w8 (bitXor v u)
 bits-byte h k = record { fits = omega (arith, bits-below h k) }
 
+pub c3-below : (s : Selection) → s .c1 < 2 → s .c2 < 2 → s .b < 2 → c3 s < 2
+unfolding c3 _⊕_
+c3-below s c1 c2 b = bits-below (bits-below c1 b) c2
+
 module _ (s : Selection) (k : Bounded s) where
   pub half-byte : {v : ℕ} → v < 2 ^ s .width → Fits w8 v
   half-byte h = record { fits = lt-of-lt-of-le h (k .halves-most) }
@@ -27,16 +31,12 @@ module _ (s : Selection) (k : Bounded s) where
   pub word-fits : {v : ℕ} → v < 2 ^ (2 * s .width) → Fits w16 v
   word-fits h = record { fits = lt-of-lt-of-le h (k .words-most) }
 
-  pub c3-below : c3 s < 2
-  unfolding c3 _⊕_
-  c3-below = bits-below (bits-below (k .c1) (k .b)) (k .c2)
-
   -- as the code has it, c1 ⊕ b having come through a call
   pub place-fits : {w : ℕ} → w ≡ bitXor (s .c1) (s .b) → Fits w64 (bitXor w (s .c2))
   place-fits e = rw e (record { fits = omega (arith, bits-below (bits-below (k .c1) (k .b)) (k .c2)) })
 
   pub place-below : (p : ℕ) → p ≡ c3 s → p < 2
-  place-below p e = rw e c3-below
+  place-below p e = rw e (c3-below s (k .c1) (k .c2) (k .b))
 
   pub place-most : (p : ℕ) → p ≡ c3 s → p ≤ 1
   place-most p e = omega (arith, place-below p e)

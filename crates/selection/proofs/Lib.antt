@@ -6,3 +6,6 @@ pub mod Bounds
 pub mod Halving
 pub mod Storing
 pub mod Logging
+pub mod Choosing
+pub mod Rows
+pub mod Promises

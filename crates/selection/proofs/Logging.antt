@@ -48,6 +48,12 @@ shares-long : (s : Selection) → length (share-entries s) ≡ 3
 unfolding share-entries entries
 shares-long s = refl
 
+pub log-long : (s : Selection) → length (log-of s) ≡ 28
+unfolding log-of
+log-long s =
+    length-append (input-entries s ++ half-entries s) (share-entries s)
+    ∙ omega (arith, length-append (input-entries s) (half-entries s), inputs-long s, halves-long s, shares-long s)
+
 module _ (s : Selection) (log : List ℕ) (room : 28 ≤ length log) where
   pub inputs-written : (words next : List ℕ) → words ≡ written log 0 (entries (1 ∷ 2 ∷ 3 ∷ []) (s .z0 ∷ s .z1 ∷ s .z2 ∷ []))
       → next ≡ written words 3 (entries (11 ∷ 4 ∷ 5 ∷ 6 ∷ 7 ∷ 8 ∷ 9 ∷ 10 ∷ []) (bit-values s)) → next ≡ written log 0 (input-entries s)

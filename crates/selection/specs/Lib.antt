@@ -2,3 +2,5 @@
 pub mod Halves
 pub mod Bounded
 pub mod Select
+pub mod Order
+pub mod Promises

@@ -1,0 +1,96 @@
+-- Pairs with halves of words that leak, and that the leak test therefore must not pass: one for each part of the test that keeps halves
+-- sound. Each is shown to leak by the counts of the two values 0 and 0 for two lists of secrets.
+use mathlib.Core.Path.{_≡_, refl}
+use mathlib.Core.Bool.{Bool, true, cond, not, _&&_}
+use mathlib.Core.List.{List, [], _∷_}
+use Prim.Native.Nat.{ℕ}
+use lib.Dec.{eqb}
+use lib.ListN.{getD}
+use Rattle.bits.specs.Xor.{_⊕_}
+use Rattle.counting.specs.Sum.{sum}
+use Rattle.counting.specs.Choice.{over, _▸_}
+use Rattle.probing.specs.Expression.{Expression, secret, mask, number, _⊞_, lookup, differ, half, System, Setting, value}
+use Rattle.probing.specs.Alike.{seen}
+use Rattle.probing.specs.Search.{every}
+use Rattle.probing.specs.Test.{fine}
+
+-- the widths of the classes, the class of halves, and the two secrets, which are both 0 before
+pub record Leak : Type 0 where
+  pub widths : List ℕ
+  pub part : ℕ
+  pub word : ℕ
+  pub bit : ℕ
+  pub one : Expression
+  pub other : Expression
+
+-- two words, two bits, two halves and one number of a class of its own are masks; a word and a bit are secret
+abbrev system : (part : ℕ) → System
+system part =
+    record { masks = 0 ∷ 0 ∷ 1 ∷ 1 ∷ 2 ∷ 2 ∷ 3 ∷ []; secrets = 0 ∷ 1 ∷ []; tables = []; flag = 1; word = 0; part = part; bit = 1 }
+
+-- halves of one bit, and those of two; the last class has 0 bits or 3
+abbrev small : (last : ℕ) → List ℕ
+small last = 2 ∷ 1 ∷ 1 ∷ last ∷ []
+
+abbrev large : List ℕ
+large = 4 ∷ 1 ∷ 2 ∷ 0 ∷ []
+
+-- a table that is not among the system's may hold anything, here 1
+abbrev setting : List ℕ → Setting
+setting ws = record { width = λ class. getD ws class 0; tables = λ t z. 1 }
+
+abbrev leak : (widths : List ℕ) → (part word bit : ℕ) → (one other : Expression) → Leak
+leak ws part word bit one other = record { widths = ws; part = part; word = word; bit = bit; one = one; other = other }
+
+-- how many choices of the masks make both values 0
+shown : Leak → (word bit : ℕ) → ℕ
+shown l word bit =
+    seen (system (l .part)) (setting (l .widths)) (word ▸ bit ▸ (λ j. 0)) (λ u v. cond (eqb u 0 && eqb v 0) 1 0) (l .one) (l .other)
+
+tells : Leak → Bool
+tells l = not (eqb (shown l 0 0) (shown l (l .word) (l .bit)))
+
+missed : Leak → Bool
+missed l = fine (system (l .part)) (l .one) (l .other)
+
+-- the half of a masked word that the secret bit chooses, and the high half
+abbrev chosen : Expression
+chosen = half 2 (secret 1) (mask 0)
+
+abbrev highest : Expression → Expression
+highest word = half 2 (number 1 0) word
+
+leaking : List Leak
+leaking =
+    -- a chosen half beside its word, beside the high half, and beside the low one chosen by a number above 1
+    leak (small 0) 2 0 1 chosen (mask 0 ⊞ number 0 1)
+    ∷ leak (small 0) 2 0 1 chosen (highest (mask 0))
+    ∷ leak large 2 0 1 chosen (half 2 (secret 1 ⊞ number 2 2) (mask 0))
+    -- chosen by a half of the same word
+    ∷ leak (small 0) 1 0 1 (half 1 (secret 1 ⊞ half 1 (number 1 0) (mask 0)) (mask 0)) (mask 1)
+    -- of a word that is public, an entry, a comparison or itself a half; and a half of another width
+    ∷ leak (small 0) 2 0 1 (half 2 (secret 1) (number 0 1)) (mask 1)
+    ∷ leak (small 0) 2 0 1 (half 2 (secret 1) (lookup 0 (mask 0))) (mask 1)
+    ∷ leak (small 0) 2 0 1 (half 2 (secret 1) (differ (mask 4) (mask 5))) (mask 1)
+    ∷ leak (small 0) 2 0 1 (half 2 (secret 1) (highest (mask 0))) (mask 1)
+    ∷ leak (small 0) 2 0 1 (half 0 (secret 1) (mask 0)) (mask 1)
+    -- a shift that moves the bit, or the word
+    ∷ leak (small 0) 2 0 1 (half 2 (secret 1 ⊞ mask 2) (mask 0)) (half 2 (mask 2) (mask 0))
+    ∷ leak (small 0) 2 2 0 (highest (secret 0 ⊞ mask 0)) (highest (mask 0))
+    -- a mask that is narrower than the half: of a wider word, or of another class
+    ∷ leak (small 3) 2 0 1 (half 2 (secret 1) (number 3 6) ⊞ mask 4) (mask 1)
+    ∷ leak (small 0) 2 0 1 (half 3 (secret 1) (mask 0) ⊞ mask 6) (mask 1)
+    -- a mask that is there, in the word or in the bit
+    ∷ leak (small 0) 2 2 0 (secret 0 ⊞ mask 0) (highest (mask 0))
+    ∷ leak (small 0) 2 0 1 (secret 1 ⊞ mask 2) (half 2 (mask 2) (number 0 1))
+    ∷ []
+
+-- the test passes none of them
+none-missed : every (λ l. not (missed l)) leaking ≡ true
+unfolding missed leaking fine every
+none-missed = refl
+
+-- and each of them leaks
+each-tells : every tells leaking ≡ true
+unfolding tells shown leaking every value over sum _⊕_
+each-tells = refl

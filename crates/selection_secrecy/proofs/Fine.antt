@@ -1,0 +1,20 @@
+-- The leak test passes on every two rows of a selection's log.
+use mathlib.Core.List.{_∷_}
+use Prim.Native.Nat.{ℕ}
+use lib.Dec.{T}
+use lib.ListN.{getD}
+use Rattle.probing.specs.Test.{fine, all-fine}
+use Rattle.lookup.proofs.Each.{Each, each-first, each-rest, each-at}
+use Rattle.secrecy.proofs.Fine.{each-pair}
+use Rattle.selection_secrecy.specs.Expressions.{system, rows, nothing}
+
+rows-fine : T (all-fine system (nothing ∷ rows) (nothing ∷ rows))
+unfolding all-fine
+rows-fine = tt
+
+-- at any two positions, past the end too
+pub any-two : (i j : ℕ) → T (fine system (getD rows i nothing) (getD rows j nothing))
+any-two i j =
+    let all = each-pair system (nothing ∷ rows) (nothing ∷ rows) rows-fine in
+    let beside = each-at {P = λ e. Each (λ f. T (fine system e f)) (nothing ∷ rows)} nothing i (each-first all) (each-rest all) in
+    each-at {P = λ f. T (fine system (getD rows i nothing) f)} nothing j (each-first beside) (each-rest beside)
