@@ -9,16 +9,15 @@ use native.Mathlib.Omega.{arith}
 use borrow.Author.Tests.{eqb-true, eqb-false}
 use mir.Facts.{and-yes, or-yes}
 use lib.Dec.{T, eqb, eqb→eq}
-use lib.ListN.{length}
 use Rattle.bits.specs.Xor.{_⊕_}
 use Rattle.bits.proofs.Xor.{below, zero-r, different-bits}
 use Rattle.counting.specs.Sum.{sum}
-use Rattle.counting.specs.Choice.{width, change, over}
+use Rattle.counting.specs.Choice.{width, change}
 use Rattle.counting.proofs.Choice.{change-same}
 use Rattle.counting.proofs.Exchange.{exchanged, exchanged-high, exchanged-low, exchanged-below, exchanged-sum, exchange}
 use Rattle.counting.proofs.Over.{Reorders, over-ext, over-reordered}
 use Rattle.probing.specs.Expression.{Expression, secret, mask, number, _⊞_, lookup, differ, half, System, Setting, value}
-use Rattle.probing.specs.Alike.{widths, Valid, seen, Alike, Known}
+use Rattle.probing.specs.Alike.{widths, Valid, Alike, Known}
 use Rattle.probing.specs.Search.{each-place}
 use Rattle.probing.specs.Test.{off-by, shiftable, of-class, is-word, wordless, wordy, flipped, turned, exchangeable}
 use Rattle.probing.proofs.Bool.{not-false}

@@ -1,17 +1,16 @@
 -- The rules of the leak test are sound: where one secret is changed and a rule applies, two expressions are alike before and after.
-use mathlib.Core.Path.{_≡_, sym, ap₂, _∙_}
-use mathlib.Core.Bool.{Bool, true, false, cond, _&&_, _||_}
+use mathlib.Core.Path.{_≡_, sym, _∙_}
+use mathlib.Core.Bool.{true, false, _&&_, _||_}
 use mathlib.Core.Logic.{inl, inr}
 use Prim.Native.Nat.{ℕ, _^_, _<_}
 use mir.Facts.{and-yes, or-yes}
 use lib.Dec.{T, eqb, ltb, eqb→eq, ltb→lt}
 use lib.ListN.{length}
 use Rattle.bits.specs.Xor.{_⊕_}
-use Rattle.bits.proofs.Xor.{below, zero-r}
 use Rattle.counting.specs.Choice.{width, change}
-use Rattle.probing.specs.Expression.{Expression, mask, System, Setting, table, value}
-use Rattle.probing.specs.Alike.{widths, Valid, seen, Alike, Even-for, Known}
-use Rattle.probing.specs.Test.{off-by, shiftable, of-class, absent, Standing, added}
+use Rattle.probing.specs.Expression.{Expression, mask, System, Setting, table}
+use Rattle.probing.specs.Alike.{widths, Valid, Alike, Even-for, Known}
+use Rattle.probing.specs.Test.{shiftable, of-class, absent, Standing, added}
 use Rattle.probing.specs.Test.{indexing, otherwise, standing, leads, covered, masked, exchangeable, unseen}
 use Rattle.probing.proofs.Change.{within-change}
 use Rattle.probing.proofs.Shift.{moved, kept}

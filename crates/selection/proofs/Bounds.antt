@@ -1,6 +1,6 @@
 -- What the bounds of a selection's numbers give: they and their sums fit where the code puts them.
 use mathlib.Core.Path.{_≡_}
-use Prim.Native.Nat.{ℕ, _+_, _*_, _^_, _≤_, _<_}
+use Prim.Native.Nat.{ℕ, _*_, _^_, _≤_, _<_}
 use native.Mathlib.Nat.{lt-of-lt-of-le}
 use native.Mathlib.Omega.{arith}
 use mir.Syntax.{w8, w16, w64}

@@ -1,6 +1,6 @@
 -- A half as the code takes it: by a shift that the bit chooses, and the lowest bits of what is left.
-use mathlib.Core.Path.{_≡_, refl, sym, _∙_}
-use Prim.Native.Nat.{ℕ, zero, suc, _+_, _-_, _*_, _/_, _%_, _^_, _≤_, _<_}
+use mathlib.Core.Path.{_≡_, _∙_}
+use Prim.Native.Nat.{ℕ, zero, suc, _+_, _-_, _*_, _/_, _^_, _≤_, _<_}
 use native.Mathlib.Nat.{lt-of-lt-of-le, mul-one, mul-zero, div-one}
 use native.Mathlib.Omega.{arith}
 use mir.Syntax.{w8, w32}

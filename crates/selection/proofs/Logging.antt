@@ -13,7 +13,6 @@ use Rattle.log_entries.specs.Entries.{entries}
 use Rattle.selection.specs.declared.Selection.{Selection}
 use Rattle.selection.specs.Halves.{half, c3, masked, share, bit-values, half-values}
 use Rattle.selection.specs.Halves.{input-entries, half-entries, share-entries, log-of}
-use Rattle.selection.specs.declared.Selected.{Selected}
 use Rattle.selection.specs.Select.{selected}
 
 pub three-written : (log : List ℕ) (u v w e f g : ℕ) → 28 ≤ length log → e ≡ entry 1 u → f ≡ entry 2 v → g ≡ entry 3 w

@@ -1,9 +1,7 @@
 -- What is promised of both calls that choose a half holds.
 use mathlib.Core.Path.{_≡_, refl, sym, ap, _∙_}
 use mathlib.Core.List.{List}
-use Prim.Native.Nat.{ℕ, zero, suc, _≤_}
-use native.Mathlib.Omega.{arith}
-use lib.ListN.{length, length-append}
+use Prim.Native.Nat.{ℕ}
 use Rattle.bits.specs.Xor.{_⊕_}
 use Rattle.refusals.specs.Checks.{first-of}
 use Rattle.table.specs.Balanced.{at}

@@ -7,13 +7,13 @@ use native.Mathlib.Omega.{arith}
 use lib.ListN.{length}
 use Rattle.bits.specs.Xor.{_⊕_}
 use Rattle.bits.proofs.Xor.{below, other-bit}
-use Rattle.lookup.specs.Entry.{entry, kind-of, value-of}
+use Rattle.lookup.specs.Entry.{kind-of, value-of}
 use Rattle.lookup.proofs.Entry.{entry-value, value-kept, entry-kind}
 use Rattle.lookup.proofs.Each.{Each, none, more}
 use Rattle.log_entries.specs.Entries.{entries}
 use Rattle.selection.specs.declared.Selection.{Selection}
 use Rattle.selection.specs.Bounded.{Bounded}
-use Rattle.selection.specs.Halves.{half, c3, masked, share, bit-values, half-values}
+use Rattle.selection.specs.Halves.{c3, masked, share, bit-values, half-values}
 use Rattle.selection.specs.Halves.{input-entries, half-entries, share-entries, log-of}
 use Rattle.selection.specs.Promises.{table-3}
 use Rattle.selection.proofs.Bounds.{bits-below, c3-below}

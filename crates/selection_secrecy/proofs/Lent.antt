@@ -14,13 +14,10 @@ use Rattle.refusals.proofs.Left.{left-refused, left-accepted}
 use Rattle.counting.specs.Choice.{width, Within}
 use Rattle.counting.proofs.Over.{over-ext}
 use Rattle.table.specs.Balanced.{at}
-use Rattle.lookup.specs.Entry.{value-of}
 use Rattle.buffers.proofs.Written.{in-front-at}
 use Rattle.secrecy.specs.Count.{value-at, shows}
-use Rattle.selection.specs.declared.Selection.{Selection}
-use Rattle.selection.specs.Bounded.{Bounded}
 use Rattle.selection.specs.Halves.{log-of}
-use Rattle.selection.specs.Select.{plain-select-refusal, select-refusal, select-log}
+use Rattle.selection.specs.Select.{plain-select-refusal, select-log}
 use Rattle.selection.proofs.Accepted.{not-refused}
 use Rattle.selection.proofs.Checking.{at-14, at-none}
 use Rattle.selection.proofs.Logging.{log-long}

@@ -1,7 +1,7 @@
 -- What stands at a position of a selection's log is what its row's expression shows, so rows that are alike count equally.
 use mathlib.Core.Path.{_≡_, refl, sym, ap, _∙_}
 use mathlib.Core.List.{map}
-use Prim.Native.Nat.{ℕ, zero, suc, _*_, _^_, _<_}
+use Prim.Native.Nat.{ℕ, _*_, _^_, _<_}
 use native.Mathlib.Nat.{not-suc-le-zero, le-refl}
 use native.Mathlib.Omega.{arith}
 use lib.ListN.{getD}
@@ -11,7 +11,7 @@ use Rattle.counting.specs.Choice.{width, Within}
 use Rattle.counting.proofs.Choice.{within-none, within-more}
 use Rattle.counting.proofs.Over.{over-ext}
 use Rattle.probing.specs.Expression.{Expression, value}
-use Rattle.probing.specs.Alike.{widths, Alike, Known, seen}
+use Rattle.probing.specs.Alike.{Alike, Known, seen}
 use Rattle.table.specs.Balanced.{at}
 use Rattle.lookup.specs.Entry.{value-of}
 use Rattle.lookup.proofs.Entry.{value-zero}

@@ -1,5 +1,4 @@
 -- `selection::checks::refused_bits` meets its contract.
-use borrow.Author.Needs.{needs}
 use Rattle.selection.proofs.Checking.{wide-c0, wide-c1, wide-c2, wide-b, narrow-bits}
 use Rattle.selection.proofs.checks.refused_bits.Statement.{statement}
 use Rattle.selection.proofs.checks.refused_bits.Tie as tie
