@@ -46,12 +46,13 @@ bench: ## the log of a case sheet (SHEET=..), printed by the proved program
 counts: ## the counts of a probe sheet (COUNTS=..), printed by the proved program
 	$(call print,counts,$(COUNTS))
 
-demo: ## masked lookups and a whole frame from C, on the proved archive
+demo: ## masked lookups, a whole frame and a choice of one half from C, on the proved archive
 	@.ci/tools x86-64 rt cc
 	@$(MAKE) --no-print-directory lib
 	@cc -std=c99 -O2 -Wall -Wextra -Iinclude examples/lookup.c $(archive) -o target/demo
 	@cc -std=c99 -O2 -Wall -Wextra -Iinclude examples/frame.c $(archive) -o target/demo_frame
-	@target/demo && target/demo_frame
+	@cc -std=c99 -O2 -Wall -Wextra -Iinclude examples/select.c $(archive) -o target/demo_select
+	@target/demo && target/demo_frame && target/demo_select
 
 sbox: ## the S-box of FIPS 197, printed by the proved program
 	$(call print,sbox_print,/dev/null)
@@ -62,7 +63,7 @@ audit: ## what the machine code does with the masks, an instruction at a time; x
 	@$(MAKE) --no-print-directory lib
 	$(call rt_in,logged,staticlib test_logged_export)
 	@.ci/progress target/audit.log tests/audit/run 9 || { grep -v ': ok$$' target/audit.log; exit 1; }
-	@cat target/audit/plain_2.log target/audit/plain_3.log target/audit/frame.log
+	@cat target/audit/plain_2.log target/audit/plain_3.log target/audit/select.log target/audit/frame.log
 
 speed: ## the tables of docs/PERFORMANCE.md
 	@.ci/tools x86-64 rt cc nm objdump size python3 valgrind

@@ -1,5 +1,6 @@
-// Cippazhey for C and C++: the masked table lookup on three shares, a whole AES-128 frame on three shares, the numbers of
-// their refusals, what their caller owes, the screening of random bytes, and the call that clears a buffer.
+// Cippazhey for C and C++: the masked table lookup on three shares, a whole AES-128 frame on three shares, the choice of one
+// half of a word by a bit on three shares of both, the numbers of their refusals, what their caller owes, the screening of
+// random bytes, and the call that clears a buffer.
 // Link libcippazhey.a, which `make lib` writes to target/staticlib/. It needs memset and memcpy at most.
 // docs/REFERENCE.md has the numbers in each call's order of checking, both methods step by step, and the masks.
 #ifndef CIPPAZHEY_H
@@ -14,7 +15,7 @@ extern "C" {
 
 // A changed call or refusal raises the minor number.
 #define CIPPAZHEY_VERSION_MAJOR 0
-#define CIPPAZHEY_VERSION_MINOR 2
+#define CIPPAZHEY_VERSION_MINOR 3
 #define CIPPAZHEY_VERSION_PATCH 0
 
 // Why a call is refused. The order of this list is the order of checking, and the first that applies is returned.
@@ -26,6 +27,8 @@ enum cippazhey_refusal {
     CIPPAZHEY_REFUSED_TABLE_LENGTH = 5,    // the table does not have exactly 2^n entries
     CIPPAZHEY_REFUSED_TABLE_ENTRY = 6,     // a table entry is 2^m or more
     CIPPAZHEY_REFUSED_UNFIT_TABLE = 7,     // not fit: values occur unequally often, or the exclusive or of three is none of them
+    CIPPAZHEY_REFUSED_SELECT_WIDTH = 20,   // the width of a half is below 1 or above 8
+    CIPPAZHEY_REFUSED_SELECT_INPUT = 21,   // a share or a mask of a selection is too large for its width
     CIPPAZHEY_REFUSED_INPUT_SHARE = 10,    // x0, r1, r2 or r3 is 2^n or more
     CIPPAZHEY_REFUSED_OUTPUT_MASK = 11,    // s1 or s2 is 2^m or more
     CIPPAZHEY_REFUSED_BIT = 12,            // b is above 0 under method 2, or above 1 under method 3
@@ -137,6 +140,39 @@ uint16_t cippazhey_plain_call(uint32_t method, uint32_t n, uint32_t m, uint32_t 
 uint32_t cippazhey_encrypt_frame(const uint8_t plaintext[16], const uint8_t key1[16], const uint8_t key2[16],
                                  const uint8_t key3[16], const uint8_t *random, size_t random_length, uint8_t *scratch,
                                  size_t scratch_length, uint8_t share1[16], uint8_t share2[16], uint8_t share3[16]);
+
+// Chooses one half of the word z = z0 ^ z1 ^ z2 by the bit c = c0 ^ c1 ^ c2, without ever forming either: 0 is the high half,
+// 1 the low one. Accepted, the shares that it writes join to that half: share0 ^ share1 ^ share2.
+//
+//   width                    of a half in bits, 1 to 8; the word has twice as many
+//   z0, z1, z2               the three shares of the word, each below 2^(2 * width): z ^ z1 ^ z2 and the two masks
+//   c0, c1, c2               the three shares of the bit, each 0 or 1: c ^ c1 ^ c2 and the two masks
+//   t1, t2                   masks of the results, each below 2^width
+//   b                        a random bit that the choice itself uses; no result depends on it
+//   share0, share1, share2   a byte each: the chosen half of z0, with t1 added; that of z1, with t2; that of z2, with both.
+//                            What stood there is not looked at. Refused, all three stay as they were.
+//
+// What the caller owes:
+//   - Each of share0, share1 and share2 points to a byte of its own, and nothing else touches them while the call runs.
+//   - z1, z2, c1, c2, t1, t2 and b are uniform, independent, and new for each call. No call can check that.
+//
+// What is proved of the source:
+//   - Every call returns, and writes only the three bytes it is lent.
+//   - The refusal and the three bytes are what the definitions in specs/ make of the numbers and of what stood there;
+//     docs/REFERENCE.md has them in words. Accepted, they join to the chosen half. A refused call writes nothing.
+//   - Any two of the values that the log of a selection lists tell nothing of the word and of the bit, for all widths.
+// What is not proved:
+//   - How long a call takes.
+//   - What the compiled code holds in registers and memory. That was audited, for the x86-64 archive and its compiler only.
+//   - A caller that passes a constant for a mask lets its compiler undo the masking: neither proved nor audited.
+//   - Three values taken together can tell the word or the bit, as z0, t1 and share0 do, and so may masks that are not
+//     uniform or are used twice.
+// What is not cleared: the call's own stack and registers. Shares of the word, of the bit and of the half stay there: overwrite
+// that stack (docs/PERFORMANCE.md says how deep it is), or let nobody read it.
+//
+// Returned is the refusal. Only the width and a number that is too large are refused, in this order.
+uint32_t cippazhey_select(uint32_t width, uint32_t z0, uint32_t z1, uint32_t z2, uint32_t c0, uint32_t c1, uint32_t c2,
+                          uint32_t t1, uint32_t t2, uint32_t b, uint8_t *share0, uint8_t *share1, uint8_t *share2);
 
 // Screens a run of random bytes, byte after byte, so that a stuck noise source is noticed. The run is faulty if some value
 // stands more than 20 times in 512 consecutive bytes, a window; a run of fewer than 512 bytes is one window. Returned is the

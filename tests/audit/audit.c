@@ -1,53 +1,39 @@
 // Audits the machine code of one call: `audit OPERANDS SUBJECT METHOD [exhaustive | linear] [without PART]`. Exhaustive at small widths, then
 // linear at n = m = 8, or one of both. Or of a whole frame, linear: `audit OPERANDS FRAME keys COUNT [without PART]`. Or of a screen, its way and
-// where it touches memory: `audit OPERANDS SCREEN runs [without PART]`. OPERANDS is the table that operands.py makes of this program's listing.
+// where it touches memory: `audit OPERANDS SCREEN runs [without PART]`. Or of a choice of one half, as of a call, linear at widths 3 to 8:
+// `audit OPERANDS SELECTION halves [exhaustive | linear] [without PART]`. OPERANDS is the table that operands.py makes of this program's listing.
 // It exits with 0 where nothing leaks, with 1 where something does, with 2 where it can't tell, and says why: a wrong answer, control flow
 // that depends on the numbers, an instruction that is not known, code at n = m = 8 that no small width runs. 3 is for wrong usage.
 #include "columns.h"
-#include "copies.h"
 #include "frame.h"
 #include "operands.h"
 #include "parts.h"
-#include "probes.h"
 #include "screen.h"
+#include "selection.h"
+#include "study.h"
 #include "subjects.h"
 
-#include <stdbool.h>
 #include <stdio.h>
 #include <stdlib.h>
 #include <string.h>
 
-enum { LONGEST = 256, MOST_STEPS = 1 << 16, RANDOM_INPUTS = 4, RANDOM_CHOICES = 24 };
+enum { LONGEST = 256, RANDOM_INPUTS = 4, RANDOM_CHOICES = 24 };
 
 static uint8_t table[LONGEST], scratch[LONGEST];
 static uint32_t entries[2400];
 static const struct subject *subject;
-static uintptr_t *audited; // the addresses that the exhaustive cases above n = 1 executed, in order
-static size_t audited_count;
 
-struct widths {
+// The numbers of the call that is made next: its method and widths, the secret, and all masks. x0 follows from them.
+static struct widths {
     uint32_t method, n, m;
-};
-
-// All masks of a call. x0 follows from them and the secret.
-struct choice {
+} w;
+static uint32_t x;
+static struct choice {
     uint32_t r1, r2, r3, s1, s2, b;
-};
-
-// A set of calls: some inputs, each with equally many choices of masks, and how their probes are compared.
-struct study {
-    const char *name;
-    struct widths widths;
-    struct division division;
-    size_t inputs, each;
-    uint32_t (*input)(size_t number);
-    struct choice (*choice)(struct widths widths, size_t number);
-    size_t (*leaking)(const struct probes *probes, size_t inputs);
-    bool (*way)(const struct trace *trace); // whether the way that all calls take will do, or NULL
-};
+} c;
 
 // The scratch before a call: zeros, or what method 2 leaves of it. What method 3 leaves does not depend on the input.
-static void lend_scratch(struct widths w, uint32_t x, struct choice c) {
+static void lend_scratch(void) {
     memset(scratch, 0, sizeof scratch);
     if (!(subject->flags & (USED | CLEARS))) return;
     for (uint32_t place = 0; place < 1u << w.n; place++) scratch[place] = (uint8_t)(table[x ^ c.r3 ^ place] ^ c.s1 ^ c.s2);
@@ -60,8 +46,8 @@ static bool right_answer(uint32_t share, uint32_t result, size_t length) {
     return result == (subject->flags & USED ? 19 * 256 : share);
 }
 
-// Makes one call; whether it can be judged and its answer is right.
-static bool one_call(runner *run, struct trace *trace, struct widths w, uint32_t x, struct choice c) {
+// Makes one call; NULL, or why it cannot be judged.
+static const char *one_call(runner *run, struct trace *trace) {
     size_t length = (size_t)1 << w.n, log_length = 10 + (w.method == 2 ? 6 : 9) * length;
     struct call call = {subject->code,
                         {w.method, w.n, w.m, x ^ c.r1 ^ c.r2, c.r1, c.r2, c.s1, c.s2, c.r3, c.b, (uintptr_t)table, length,
@@ -69,112 +55,45 @@ static bool one_call(runner *run, struct trace *trace, struct widths w, uint32_t
                         {{"table", table, length}, {"scratch", scratch, length}, {"log", entries, sizeof *entries * log_length}}};
     struct call clearing = {subject->code, {(uintptr_t)scratch, length}, {{"scratch", scratch, length}}};
     uint64_t result;
-    lend_scratch(w, x, c);
+    lend_scratch();
     memset(entries, 0, sizeof entries);
     const char *trouble = run(trace, subject->flags & CLEARS ? &clearing : &call, &result);
     uint32_t answer = (subject->flags & LOGGED ? entries[log_length - 1] : (uint32_t)result) & 65535u;
     if (!trouble && !right_answer(table[x] ^ c.s1 ^ c.s2, answer, length) && watches(ANSWERS_PART)) trouble = "wrong answer";
-    if (!trouble) return true;
-    printf("    %s: x = %u, r1 = %u, r2 = %u, r3 = %u, s1 = %u, s2 = %u, b = %u\n", trouble, x, c.r1, c.r2, c.r3, c.s1, c.s2, c.b);
-    return false;
+    return trouble;
 }
 
-// The first call is stepped through and run by copies too: both must note the same.
-static bool first_call(runner *later, struct trace *trace, struct widths w, uint32_t x, struct choice c) {
-    if (!one_call(step_through, trace, w, x, c)) return false;
-    size_t count = trace->count;
-    if (!one_call(later, trace, w, x, c)) return false;
-    if (noted_again(trace, count)) return true;
-    printf("    copied instructions do otherwise\n");
-    return false;
+static void print_numbers(void) {
+    printf("x = %u, r1 = %u, r2 = %u, r3 = %u, s1 = %u, s2 = %u, b = %u\n", x, c.r1, c.r2, c.r3, c.s1, c.s2, c.b);
 }
 
-static int carry_out(const struct study *study, struct trace *trace) {
-    size_t calls = study->inputs * study->each, *starts = room(calls, sizeof *starts), leaking = 0;
-    runner *later = watches(INSTRUCTIONS_PART) ? run_copies : step_through; // what is not known can't be copied
-    bool known = true;
-    printf("%s, method %u, n = %u, m = %u, %s%s\n", subject->name, study->widths.method, study->widths.n, study->widths.m, study->name,
+static void print_title(const char *name) {
+    printf("%s, method %u, n = %u, m = %u, %s%s\n", subject->name, w.method, w.n, w.m, name,
            subject->flags & CLEARS ? ", clearing used scratch" : subject->flags & USED ? ", on used scratch" : "");
-    start_trace(trace, study->division, MOST_STEPS);
-    for (size_t call = 0; call < calls && known; call++) {
-        uint32_t input = study->input(call / study->each);
-        struct choice choice = study->choice(study->widths, call % study->each);
-        starts[call] = trace->count;
-        if (call)
-            known = one_call(later, trace, study->widths, input, choice);
-        else
-            known = first_call(later, trace, study->widths, input, choice) && (!study->way || study->way(trace));
-    }
-    if (known) {
-        struct probes probes = probes_of(trace, starts, calls);
-        printf("    %lu calls of %lu instructions, %lu probes\n", (unsigned long)calls, (unsigned long)trace->steps, (unsigned long)probes.count);
-        leaking = study->leaking(&probes, study->inputs);
-        drop_probes(&probes);
-    }
-    free(starts);
-    return !known ? UNKNOWN : leaking ? LEAKS : SILENT;
 }
 
-static int by_address(const void *one, const void *other) {
-    uintptr_t left = *(const uintptr_t *)one, right = *(const uintptr_t *)other;
-    return left < right ? -1 : left > right;
-}
-
-static void add_audited(const struct trace *trace) {
-    audited = realloc(audited, (audited_count + trace->steps) * sizeof *audited);
-    if (!audited) abort();
-    memcpy(audited + audited_count, trace->addresses, trace->steps * sizeof *audited);
-    audited_count += trace->steps;
-    qsort(audited, audited_count, sizeof *audited, by_address);
-}
-
-// Whether each address of the trace was executed by an exhaustive case above n = 1.
-static bool all_audited(const struct trace *trace) {
-    for (size_t i = 0; i < trace->steps; i++)
-        if (!bsearch(&trace->addresses[i], audited, audited_count, sizeof *audited, by_address)) {
-            printf("    %#lx runs here and in no exhaustive case above n = 1\n", (unsigned long)trace->addresses[i]);
-            return false;
-        }
-    return true;
-}
-
-static uint32_t input_itself(size_t number) {
-    return (uint32_t)number;
-}
-
-static uint32_t bits(size_t *from, uint32_t width) {
-    uint32_t value = (uint32_t)*from & ((1u << width) - 1);
-    *from >>= width;
-    return value;
-}
-
-static struct choice choice_numbered(struct widths w, size_t number) {
-    struct choice c;
-    c.r1 = bits(&number, w.n), c.r2 = bits(&number, w.n), c.r3 = bits(&number, w.n);
-    c.s1 = bits(&number, w.m), c.s2 = bits(&number, w.m), c.b = bits(&number, w.method - 2);
-    return c;
+static void choose_numbered(size_t input, size_t number) {
+    x = (uint32_t)input;
+    c.r1 = take_bits(&number, w.n), c.r2 = take_bits(&number, w.n), c.r3 = take_bits(&number, w.n);
+    c.s1 = take_bits(&number, w.m), c.s2 = take_bits(&number, w.m), c.b = take_bits(&number, w.method - 2);
 }
 
 // Every input with every choice of masks. Where the call is refused, b is handled by itself alone and stays 0, and four inputs are enough: with
 // every r3, each comes to every place of the table.
-static int exhaustive(struct widths w, const uint8_t *lent_table) {
+static int exhaustive(const uint8_t *lent_table) {
     size_t entries = (size_t)1 << w.n, inputs = subject->flags & USED && entries > 4 ? 4 : entries;
     uint32_t bit = subject->flags & USED ? 0 : w.method - 2;
     size_t each = (size_t)1 << (3 * w.n + 2 * w.m + bit);
-    struct study study = {"exhaustive", w, {8, 32}, inputs, each, input_itself, choice_numbered, leaking_pairs, NULL};
+    struct study study = {{8, 32}, inputs, each, choose_numbered, one_call, print_numbers, leaking_pairs, NULL};
     struct trace trace;
     if (subject->flags & LOGGED) study.division = watches(LOG_ENTRIES_PART) ? (struct division){4, 4} : (struct division){2, 2};
     if (subject->flags & CLEARS) study.leaking = dependent_probes;
     memcpy(table, lent_table, entries);
+    print_title("exhaustive");
     int found = carry_out(&study, &trace);
     if (w.n > 1) add_audited(&trace);
     end_trace(&trace);
     return found;
-}
-
-static uint32_t some_input(size_t number) {
-    static const uint32_t inputs[RANDOM_INPUTS] = {0, 1, 90, 255};
-    return inputs[number];
 }
 
 static uint32_t random_byte(void) {
@@ -185,10 +104,11 @@ static uint32_t random_byte(void) {
     return state >> 24;
 }
 
-static struct choice random_choice(struct widths w, size_t number) {
-    struct choice c = {random_byte(), random_byte(), random_byte(), random_byte(), random_byte(), random_byte() % (w.method - 1)};
+static void choose_randomly(size_t input, size_t number) {
+    static const uint32_t inputs[RANDOM_INPUTS] = {0, 1, 90, 255};
+    x = inputs[input];
+    c = (struct choice){random_byte(), random_byte(), random_byte(), random_byte(), random_byte(), random_byte() % (w.method - 1)};
     (void)number;
-    return c;
 }
 
 // Numbers below a power of two, equally often: both steps can be undone.
@@ -208,13 +128,15 @@ static uint8_t odd_entry(uint32_t place) {
 
 // Some inputs with choices of masks drawn at random, at n = m = 8. Each byte is a probe: where two numbers' exclusive or leaks, one of their
 // bytes' does. A call that may take another way by its table must take fewer than so many instructions an entry.
-static int linear(const char *name, uint32_t method, bool same_code, uint8_t (*entry)(uint32_t place), size_t pace) {
-    struct study study = {name, {method, 8, 8}, {1, 1}, RANDOM_INPUTS, RANDOM_CHOICES, some_input, random_choice, leaking_sums, NULL};
+static int linear(const char *name, bool same_code, uint8_t (*entry)(uint32_t place), size_t pace) {
+    struct study study = {{1, 1}, RANDOM_INPUTS, RANDOM_CHOICES, choose_randomly, one_call, print_numbers, leaking_sums, NULL};
     struct trace trace;
     if (same_code && watches(WIDTHS_PART)) study.way = all_audited;
     if (!watches(BYTES_PART)) study.division = (struct division){8, 8};
     if (subject->flags & CLEARS) study.leaking = dependent_probes;
     for (uint32_t i = 0; i < LONGEST; i++) table[i] = entry(i);
+    w.n = w.m = 8;
+    print_title(name);
     int found = carry_out(&study, &trace);
     if (found == SILENT && subject->flags & BY_TABLE && watches(PACE_PART) && trace.steps >= pace * LONGEST) {
         printf("    too many instructions an entry\n");
@@ -225,14 +147,14 @@ static int linear(const char *name, uint32_t method, bool same_code, uint8_t (*e
 }
 
 // The linear cases of the subject, as long as nothing leaks.
-static int audit_large(uint32_t method, bool same_code) {
-    int found = linear("linear", method, same_code, balanced_entry, 30);
+static int audit_large(bool same_code) {
+    int found = linear("linear", same_code, balanced_entry, 30);
     bool by_table = subject->flags & BY_TABLE && watches(FIT_PART);
-    return found == SILENT && by_table ? linear("linear, 128 values", method, same_code, odd_entry, 120) : found;
+    return found == SILENT && by_table ? linear("linear, 128 values", same_code, odd_entry, 120) : found;
 }
 
 // The exhaustive cases of the subject, if `small`; then the linear ones, if `large` and nothing leaks so far.
-static int audit(uint32_t method, bool small, bool large) {
+static int audit(bool small, bool large) {
     enum { FIRST_FIT = 6, FIT_CASES = 5 };
     static const struct {
         uint32_t n, m;
@@ -248,11 +170,12 @@ static int audit(uint32_t method, bool small, bool large) {
     int found = small && subject->cases == 0 ? UNKNOWN : SILENT;
     for (size_t i = subject->first; small && i < subject->first + subject->cases && found != UNKNOWN; i++) {
         if (i >= FIRST_FIT && i < FIRST_FIT + FIT_CASES && !watches(FIT_PART)) continue;
-        int here = exhaustive((struct widths){method, cases[i].n, cases[i].m}, cases[i].table);
+        w.n = cases[i].n, w.m = cases[i].m;
+        int here = exhaustive(cases[i].table);
         if (here > found) found = here;
         if (subject->flags & CONTROL && found == LEAKS) break;
     }
-    return large && found == SILENT ? audit_large(method, small && !(subject->flags & BY_WIDTH)) : found;
+    return large && found == SILENT ? audit_large(small && !(subject->flags & BY_WIDTH)) : found;
 }
 
 // Leaves out a part, if the words that are left ask for it. False where they say anything else.
@@ -263,8 +186,15 @@ static bool take_part(int count, char **words) {
     return true;
 }
 
+// Which of both is asked for, exhaustive or linear: both where no word says so. Returns how many words do.
+static int take_cases(int count, char **words, bool *small, bool *large) {
+    *small = count == 0 || strcmp(words[0], "linear");
+    *large = count == 0 || strcmp(words[0], "exhaustive");
+    return !*small || !*large;
+}
+
 int main(int count, char **words) {
-    bool small = true, large = true;
+    bool small, large;
     if (count >= 5 && !strcmp(words[3], "keys")) {
         const struct frame *frame = frame_named(words[2]);
         int keys = atoi(words[4]);
@@ -274,16 +204,17 @@ int main(int count, char **words) {
         const struct screen *screen = screen_named(words[2]);
         if (screen && take_part(count - 4, words + 4) && read_operands(words[1])) return audit_screen(screen);
     } else if (count >= 4) {
-        uint32_t method = (uint32_t)atoi(words[3]);
-        int next = 4;
-        if (next < count && !strcmp(words[next], "exhaustive")) large = false, next++;
-        if (next < count && !strcmp(words[next], "linear") && large) small = false, next++;
+        const struct selection *selection = strcmp(words[3], "halves") ? NULL : selection_named(words[2]);
+        int next = 4 + take_cases(count - 4, words + 4, &small, &large);
         subject = subject_named(words[2]);
-        if (subject && method >= 2 && method <= 3 && take_part(count - next, words + next) && read_operands(words[1]))
-            return audit(method, small, large);
+        w.method = (uint32_t)atoi(words[3]);
+        bool fits = selection || (subject && w.method >= 2 && w.method <= 3);
+        if (fits && take_part(count - next, words + next) && read_operands(words[1]))
+            return selection ? audit_selection(selection, small, large) : audit(small, large);
     }
     fprintf(stderr, "usage: audit OPERANDS SUBJECT METHOD [exhaustive | linear] [without PART]\n"
                     "       audit OPERANDS FRAME keys COUNT [without PART]\n"
-                    "       audit OPERANDS SCREEN runs [without PART]\n");
+                    "       audit OPERANDS SCREEN runs [without PART]\n"
+                    "       audit OPERANDS SELECTION halves [exhaustive | linear] [without PART]\n");
     return WRONG_USAGE;
 }

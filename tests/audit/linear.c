@@ -1,7 +1,6 @@
 // The linear comparison of all pairs of probes.
 #include "probes.h"
 
-#include <stdbool.h>
 #include <stdio.h>
 #include <stdlib.h>
 #include <string.h>
@@ -22,7 +21,7 @@ static int by_moves(const void *one, const void *other) {
 
 static struct moving moving_of(const struct probe *probe, size_t calls, size_t each) {
     struct moving moving = {probe, room(calls, sizeof(uint64_t))};
-    for (size_t call = 0; probe && call < calls; call++) moving.moves[call] = probe->values[call] ^ probe->values[call / each * each];
+    for (size_t call = 0; probe && call < calls; call++) moving.moves[call] = value_in(probe, call) ^ value_in(probe, call / each * each);
     return moving;
 }
 
@@ -30,7 +29,7 @@ static struct moving moving_of(const struct probe *probe, size_t calls, size_t e
 static bool differ(const struct moving *one, const struct moving *other, size_t inputs, size_t each) {
     uint64_t at_first = 0;
     for (size_t input = 0; input < inputs; input++) {
-        uint64_t left = one->probe ? one->probe->values[input * each] : 0, right = other->probe ? other->probe->values[input * each] : 0;
+        uint64_t left = one->probe ? value_in(one->probe, input * each) : 0, right = other->probe ? value_in(other->probe, input * each) : 0;
         if (input == 0) at_first = left ^ right;
         if ((left ^ right) != at_first) return true;
     }

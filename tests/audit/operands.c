@@ -7,6 +7,14 @@
 
 static struct operand *operands; // in the order of their instructions, with an empty one at the end
 static size_t count;
+static size_t *first_at; // by the distance from the first instruction: one more than the number of an instruction's first operand, or 0
+
+static void index_operands(void) {
+    uintptr_t first = operands[0].instruction, last = operands[count - 1].instruction;
+    first_at = calloc(last - first + 1, sizeof *first_at);
+    if (!first_at) abort();
+    for (size_t i = count; i > 0; i--) first_at[operands[i - 1].instruction - first] = i;
+}
 
 bool read_operands(const char *path) {
     FILE *table = fopen(path, "r");
@@ -21,21 +29,15 @@ bool read_operands(const char *path) {
         operands[count++] = next;
     }
     bool whole = count && feof(table);
-    if (whole) operands[count] = (struct operand){.access = '-'};
+    if (whole) operands[count] = (struct operand){.access = '-'}, index_operands();
     fclose(table);
     return whole;
 }
 
 const struct operand *operands_of(uintptr_t instruction) {
-    size_t from = 0, to = count;
-    while (from < to) {
-        size_t middle = from + (to - from) / 2;
-        if (operands[middle].instruction < instruction)
-            from = middle + 1;
-        else
-            to = middle;
-    }
-    return from < count && operands[from].instruction == instruction ? &operands[from] : NULL;
+    uintptr_t first = operands[0].instruction, last = operands[count - 1].instruction;
+    size_t number = instruction >= first && instruction <= last ? first_at[instruction - first] : 0;
+    return number ? &operands[number - 1] : NULL;
 }
 
 uintptr_t address_of(const struct operand *operand, const uint64_t general[GENERAL_REGISTERS]) {

@@ -34,6 +34,7 @@ bool leave_out(const char *name) {
         [COPIES_PART] = "copies",
         [PACE_PART] = "pace",
         [READING_PART] = "reading",
+        [SETTINGS_PART] = "settings",
     };
     for (int part = NO_PART + 1; part < PARTS; part++)
         if (!strcmp(names[part], name)) left_out = (enum part)part;

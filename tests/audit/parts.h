@@ -32,6 +32,7 @@ enum part {
     COPIES_PART,       // copied instructions do what the code does
     PACE_PART,         // of a screen, few instructions a byte; of a lookup at n = m = 8, few an entry
     READING_PART,      // of a screen, each byte is read once
+    SETTINGS_PART,     // of a selection, in each setting of its bits
     PARTS
 };
 

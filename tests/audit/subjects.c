@@ -64,6 +64,17 @@
     each(screen_control_flow) \
     each(screen_control_answers)
 
+// Those of select_baseline.c in tests/speed and of selection_controls.s.
+#define SELECTIONS(each)           \
+    each(unguarded_select)         \
+    each(early_select)             \
+    each(late_select)              \
+    each(compared_select)          \
+    each(joined_select)            \
+    each(select_control_answers)   \
+    each(select_control_flow)      \
+    each(select_control_widths)
+
 // Only their addresses are used: the arguments are laid out by hand.
 #define DECLARATION(name, cases) void control_##name(void);
 #define ROW(name, cases) {#name, control_##name, 0, cases, CONTROL},
@@ -72,11 +83,13 @@
 #define FRAME_ROW(name) {"frame_" #name, frame_control_##name, 0},
 #define SCREEN_DECLARATION(name) void name(void);
 #define SCREEN_ROW(name) {#name, name},
+#define SELECTION_ROW(name) {#name, name, 0, 0},
 
 CONTROLS(DECLARATION)
 TABLE_CONTROLS(DECLARATION)
 FRAME_CONTROLS(FRAME_DECLARATION)
 SCREENS(SCREEN_DECLARATION)
+SELECTIONS(SCREEN_DECLARATION)
 void control_log_entries(void);
 void control_log_reads(void);
 void control_joined_leftovers(void);
@@ -89,6 +102,11 @@ void cippazhey_clear(void);
 void cippazhey_logged_call(void);
 void cippazhey_encrypt_frame(void);
 void cippazhey_screen(void);
+void cippazhey_select(void);
+void cippazhey_logged_select(void);
+void guarded_select(void);
+void guarded_logged_select(void);
+void select_control_log_entries(void);
 void guarded_frame(void);
 void unguarded_frame(void);
 void joined_frame(void);
@@ -142,5 +160,17 @@ const struct screen *screen_named(const char *name) {
     static const struct screen screens[] = {{"screen", cippazhey_screen}, SCREENS(SCREEN_ROW)};
     for (size_t i = 0; i < sizeof screens / sizeof *screens; i++)
         if (!strcmp(screens[i].name, name)) return &screens[i];
+    return NULL;
+}
+
+const struct selection *selection_named(const char *name) {
+    static const struct selection selections[] = {{"select", cippazhey_select, 6, 0},
+                                                  {"logged_select", cippazhey_logged_select, 1, LOGGED},
+                                                  {"guarded_select", guarded_select, 1, 0},
+                                                  {"guarded_logged_select", guarded_logged_select, 0, LOGGED},
+                                                  {"select_control_log_entries", select_control_log_entries, 0, LOGGED},
+                                                  SELECTIONS(SELECTION_ROW)};
+    for (size_t i = 0; i < sizeof selections / sizeof *selections; i++)
+        if (!strcmp(selections[i].name, name)) return &selections[i];
     return NULL;
 }

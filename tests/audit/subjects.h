@@ -31,9 +31,18 @@ struct screen {
     void (*code)(void);
 };
 
+// A choice of one half by a masked bit, or a control that takes its arguments.
+struct selection {
+    const char *name;
+    void (*code)(void);
+    unsigned words; // how many words it is audited with at width 2
+    unsigned flags; // LOGGED
+};
+
 // NULL where there is none
 const struct subject *subject_named(const char *name);
 const struct frame *frame_named(const char *name);
 const struct screen *screen_named(const char *name);
+const struct selection *selection_named(const char *name);
 
 #endif

@@ -1,6 +1,6 @@
 // The header against the archive, in C and in C++: the calls' types, each number of the enum, both lengths, what no fault is, the names of
 // the parameters, and the helpers. Prints a line for each that is wrong; exits with 1 if one is. Compile it with CALL_BY_NAME,
-// FRAME_BY_NAME, SCREEN_BY_NAME and CLEAR_BY_NAME, calls whose arguments are the names of the parameters in the header's order.
+// FRAME_BY_NAME, SELECT_BY_NAME, SCREEN_BY_NAME and CLEAR_BY_NAME, calls whose arguments are the names of the parameters in the header's order.
 #include "cippazhey.h"
 #include "cippazhey.h" // twice, for its guard
 
@@ -14,6 +14,9 @@ static plain_call *const typed_call = cippazhey_plain_call;
 typedef uint32_t frame_call(const uint8_t *, const uint8_t *, const uint8_t *, const uint8_t *, const uint8_t *, size_t, uint8_t *, size_t,
                             uint8_t *, uint8_t *, uint8_t *);
 static frame_call *const typed_frame = cippazhey_encrypt_frame;
+typedef uint32_t select_call(uint32_t, uint32_t, uint32_t, uint32_t, uint32_t, uint32_t, uint32_t, uint32_t, uint32_t, uint32_t, uint8_t *,
+                             uint8_t *, uint8_t *);
+static select_call *const typed_select = cippazhey_select;
 typedef uint64_t screen_call(const uint8_t *, size_t);
 static screen_call *const typed_screen = cippazhey_screen;
 typedef void clear_call(uint8_t *, size_t);
@@ -166,6 +169,63 @@ static void encrypted_frame(void) {
     hold(faulty == CIPPAZHEY_REFUSED_FAULTY_RANDOM, "refusal of faulty random bytes", (int)faulty);
 }
 
+enum { WIDTH, Z0, Z1, Z2, C0, C1, C2, T1, T2, BIT, SELECT_NUMBERS, SHARES = 3 };
+
+// Passes each number and each place for the parameter that the header gives its name to. Returned are the refusal and the results.
+static uint32_t select_by_name(const uint32_t number[SELECT_NUMBERS]) {
+    uint8_t shares[SHARES] = {0, 0, 0}, *share0 = &shares[0], *share1 = &shares[1], *share2 = &shares[2];
+    uint32_t width = number[WIDTH], z0 = number[Z0], z1 = number[Z1], z2 = number[Z2], c0 = number[C0], c1 = number[C1], c2 = number[C2];
+    uint32_t t1 = number[T1], t2 = number[T2], b = number[BIT];
+    uint32_t refusal = SELECT_BY_NAME;
+    return refusal << 24 | (uint32_t)shares[0] << 16 | (uint32_t)shares[1] << 8 | shares[2];
+}
+
+static uint32_t select_by_place(const uint32_t n[SELECT_NUMBERS]) {
+    uint8_t shares[SHARES] = {0, 0, 0};
+    uint32_t refusal = typed_select(n[0], n[1], n[2], n[3], n[4], n[5], n[6], n[7], n[8], n[9], &shares[0], &shares[1], &shares[2]);
+    return refusal << 24 | (uint32_t)shares[0] << 16 | (uint32_t)shares[1] << 8 | shares[2];
+}
+
+// Their numbers differ enough that the results tell them apart.
+static const uint32_t selections[][SELECT_NUMBERS] = {
+    {4, 0x65, 0x17, 0xf0, 0, 0, 0, 3, 12, 0},
+    {4, 0x65, 0x17, 0xf0, 1, 0, 0, 3, 12, 0},
+    {2, 13, 4, 7, 0, 0, 0, 1, 3, 1},
+};
+enum { SELECTIONS = sizeof selections / sizeof *selections };
+
+// Some result changes when two numbers are exchanged. Only c0, c1 and c2 are alike to the call.
+static void places_of_select(void) {
+    for (int place = 0; place < SELECT_NUMBERS; place++) {
+        for (int other = place + 1; other < SELECT_NUMBERS; other++) {
+            int differ = 0;
+            for (int each = 0; each < SELECTIONS; each++) {
+                uint32_t exchanged[SELECT_NUMBERS];
+                memcpy(exchanged, selections[each], sizeof exchanged);
+                exchanged[place] = selections[each][other];
+                exchanged[other] = selections[each][place];
+                differ += select_by_name(exchanged) != select_by_name(selections[each]);
+            }
+            hold((differ > 0) == !(place >= C0 && other <= C2), "exchange of two numbers of a selection, the first", place);
+        }
+    }
+}
+
+static void selected_half(void) {
+    uint32_t number[SELECT_NUMBERS] = {4, 0x65, 0x17, 0xf0, 0, 1, 1, 3, 12, 1};
+    for (int each = 0; each < SELECTIONS; each++) {
+        hold(select_by_name(selections[each]) == select_by_place(selections[each]), "selection by name", each);
+    }
+    hold(select_by_name(number) == 0x050d00, "results of a high half", (int)select_by_name(number));
+    number[C0] = 1;
+    hold(select_by_name(number) == 0x060b0f, "results of a low half", (int)select_by_name(number));
+    number[T2] = 16;
+    hold(select_by_name(number) == (uint32_t)CIPPAZHEY_REFUSED_SELECT_INPUT << 24, "refusal of a selection's input", 0);
+    number[WIDTH] = 9;
+    hold(select_by_name(number) == (uint32_t)CIPPAZHEY_REFUSED_SELECT_WIDTH << 24, "refusal of a selection's width", 0);
+    places_of_select();
+}
+
 static uint64_t screened(const uint8_t *run, size_t length) {
     return SCREEN_BY_NAME;
 }
@@ -201,6 +261,7 @@ int main(void) {
     places_of_the_numbers();
     stated_scratch_length();
     encrypted_frame();
+    selected_half();
     screened_run();
     cleared_buffer();
     return wrong;

@@ -34,10 +34,21 @@ uint64_t baseline_screen(const uint8_t *run, size_t length);
                   uint8_t share2[16], uint8_t share3[16])
 FRAME_CALL(guarded_frame);
 
+// The choice of one half by a masked bit. The parameters and the refusal are those of the exported call; the logged one returns the refusal too.
+#define SELECT_CALL(name)                                                                                                       \
+    uint32_t name(uint32_t width, uint32_t z0, uint32_t z1, uint32_t z2, uint32_t c0, uint32_t c1, uint32_t c2, uint32_t t1,     \
+                  uint32_t t2, uint32_t b, uint8_t *share0, uint8_t *share1, uint8_t *share2)
+#define LOGGED_SELECT_CALL(name)                                                                                                \
+    uint32_t name(uint32_t width, uint32_t z0, uint32_t z1, uint32_t z2, uint32_t c0, uint32_t c1, uint32_t c2, uint32_t t1,     \
+                  uint32_t t2, uint32_t b, uint32_t *log, size_t log_length)
+SELECT_CALL(baseline_select);
+SELECT_CALL(guarded_select);
+
 // Calls of nothing, with the parameters of each kind (nothing.c).
 PLAIN_CALL(nothing_plain_call);
 LOGGED_CALL(nothing_logged_call);
 FRAME_CALL(nothing_frame);
+SELECT_CALL(nothing_select);
 uint64_t nothing_screen(const uint8_t *run, size_t length);
 
 #endif

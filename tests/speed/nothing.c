@@ -12,6 +12,9 @@ LOGGED_CALL(nothing_logged_call) {
 FRAME_CALL(nothing_frame) {
     return 0;
 }
+SELECT_CALL(nothing_select) {
+    return 0;
+}
 uint64_t nothing_screen(const uint8_t *run, size_t length) {
     return UINT64_MAX;
 }

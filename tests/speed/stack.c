@@ -18,6 +18,7 @@ uintptr_t stack_at_entry;
     __asm__(".globl noted_" #call "\nnoted_" #call ":\n mov %rsp, stack_at_entry(%rip)\n jmp cippazhey_" #call "\n")
 NOTED(plain_call);
 NOTED(encrypt_frame);
+NOTED(select);
 NOTED(screen);
 NOTED(clear);
 
@@ -59,6 +60,11 @@ static void look_up_by_3(void) {
 static void encrypt(void) {
     must_be(noted_encrypt_frame(blocks[0], blocks[1], blocks[2], blocks[3], numbers, sizeof numbers, scratch, sizeof scratch, blocks[4],
                                 blocks[5], blocks[6]), CIPPAZHEY_ACCEPTED);
+}
+static void choose(void) {
+    must_be(noted_select(8, numbers[0] * 256u + numbers[1], numbers[2] * 256u + numbers[3], numbers[4] * 256u + numbers[5], numbers[6] % 2,
+                         numbers[7] % 2, numbers[8] % 2, numbers[9], numbers[10], numbers[11] % 2, &blocks[4][0], &blocks[5][0], &blocks[6][0]),
+            CIPPAZHEY_ACCEPTED);
 }
 static void screen(void) {
     must_be(noted_screen(numbers, sizeof numbers), CIPPAZHEY_NO_FAULT);
@@ -108,6 +114,7 @@ int main(void) {
     print_row("`cippazhey_plain_call`, method 2", look_up_by_2);
     print_row("`cippazhey_plain_call`, method 3", look_up_by_3);
     print_row("`cippazhey_encrypt_frame`", encrypt);
+    print_row("`cippazhey_select`", choose);
     print_row("`cippazhey_screen`", screen);
     print_row("`cippazhey_clear`", clear);
 }

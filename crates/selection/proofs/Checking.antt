@@ -3,6 +3,9 @@ use mathlib.Core.Path.{_≡_, refl, sym, _∙_}
 use mathlib.Core.Bool.{Bool, true, false}
 use mathlib.Core.List.{List, [], _∷_, _++_}
 use Prim.Native.Nat.{ℕ, _*_, _^_, _≤_, _<_}
+use native.Mathlib.Omega.{arith}
+use mir.Syntax.{w32}
+use mir.Val.{Fits}
 use borrow.Author.Tests.{lt-ltb, le-ltb}
 use lib.Dec.{ltb}
 use lib.ListN.{length}
@@ -51,22 +54,27 @@ module _ (s : Selection) where
   unfolding bit-checks
   some-bit t = stops 21 _ t
 
-  pub wide-c0 : 2 ≤ s .c0 → 21 ≡ first-of (bit-checks s)
-  wide-c0 h = some-bit (some-here _ _ _ h)
+  -- by the number that a barrier handed back
+  module _ (two : ℕ) (told : two ≡ 2) where
+    pub two-fits : Fits w32 two
+    two-fits = record { fits = omega (arith, told) }
 
-  pub wide-c1 : 2 ≤ s .c1 → 21 ≡ first-of (bit-checks s)
-  wide-c1 h = some-bit (some-later _ _ _ (some-here _ _ _ h))
+    pub wide-c0 : two ≤ s .c0 → 21 ≡ first-of (bit-checks s)
+    wide-c0 h = some-bit (some-here _ _ _ (rw told at h))
 
-  pub wide-c2 : 2 ≤ s .c2 → 21 ≡ first-of (bit-checks s)
-  wide-c2 h = some-bit (some-later _ _ _ (some-later _ _ _ (some-here _ _ _ h)))
+    pub wide-c1 : two ≤ s .c1 → 21 ≡ first-of (bit-checks s)
+    wide-c1 h = some-bit (some-later _ _ _ (some-here _ _ _ (rw told at h)))
 
-  pub wide-b : 2 ≤ s .b → 21 ≡ first-of (bit-checks s)
-  wide-b h = some-bit (some-later _ _ _ (some-later _ _ _ (some-later _ _ _ (some-here _ _ _ h))))
+    pub wide-c2 : two ≤ s .c2 → 21 ≡ first-of (bit-checks s)
+    wide-c2 h = some-bit (some-later _ _ _ (some-later _ _ _ (some-here _ _ _ (rw told at h))))
 
-  pub narrow-bits : s .c0 < 2 → s .c1 < 2 → s .c2 < 2 → s .b < 2 → 0 ≡ first-of (bit-checks s)
-  unfolding bit-checks
-  narrow-bits h k l m =
-      goes 21 _ (one-below _ _ _ h (one-below _ _ _ k (one-below _ _ _ l (one-below _ _ _ m (none-below _))))) none-applies
+    pub wide-b : two ≤ s .b → 21 ≡ first-of (bit-checks s)
+    wide-b h = some-bit (some-later _ _ _ (some-later _ _ _ (some-later _ _ _ (some-here _ _ _ (rw told at h)))))
+
+    pub narrow-bits : s .c0 < two → s .c1 < two → s .c2 < two → s .b < two → 0 ≡ first-of (bit-checks s)
+    unfolding bit-checks
+    narrow-bits h k l m =
+        goes 21 _ (rw (← told) (one-below _ _ _ h (one-below _ _ _ k (one-below _ _ _ l (one-below _ _ _ m (none-below _)))))) none-applies
 
   -- the masks of a half, by the size that `power` told
   module _ (halves : ℕ) (told : halves ≡ 2 ^ s .width) where

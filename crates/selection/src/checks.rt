@@ -55,19 +55,21 @@ fn refused_words(selection: Selection) -> u32
     0
 }
 
+// The limit comes through a barrier: where the compiler knows it to be 2, it compares c1 | c2 | b with it at once. t1 is the index.
 fn refused_bits(selection: Selection) -> u32
     ensures { λ r. ⌜ r ≡ first-of (bit-checks selection) ⌝ }
 {
-    if 2 <= selection.c0 {
+    let two = lookup::value_barrier(2, selection.t1) as u32;
+    if two <= selection.c0 {
         return 21;
     }
-    if 2 <= selection.c1 {
+    if two <= selection.c1 {
         return 21;
     }
-    if 2 <= selection.c2 {
+    if two <= selection.c2 {
         return 21;
     }
-    if 2 <= selection.b {
+    if two <= selection.b {
         return 21;
     }
     0

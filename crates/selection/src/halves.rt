@@ -6,7 +6,7 @@ ghost use Rattle.selection.specs.Bounded.{Bounded};
 ghost use Rattle.selection.specs.Halves.{half as Halves·half, c3};
 use crate::Selection;
 
-// By a shift that the bit chooses: a test of the bit may become a jump.
+// By a shift that the bit chooses: a test of the bit may become a jump. It is never by 0, which leaves the flags of what was done before.
 pub fn half(width: u32, bit: u32, word: u32) -> u8
     requires { ⌜ width ≤ 8 ⌝ }
     requires { ⌜ bit < 2 ⌝ }
@@ -14,7 +14,7 @@ pub fn half(width: u32, bit: u32, word: u32) -> u8
     ensures { λ r. ⌜ r ≡ Halves·half width bit word ⌝ }
 {
     let low = bits::power(width) - 1;
-    ((word >> (width * (1 - bit))) & low) as u8
+    (((2 * word) >> (width * (1 - bit) + 1)) & low) as u8
 }
 
 // (c1 ⊕ b) ⊕ c2, in this order: c1 ⊕ c2 beside c0 is the bit. t1 is the barrier's index.
