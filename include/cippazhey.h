@@ -154,7 +154,8 @@ uint32_t cippazhey_encrypt_frame(const uint8_t plaintext[16], const uint8_t key1
 //
 // What the caller owes:
 //   - Each of share0, share1 and share2 points to a byte of its own, and nothing else touches them while the call runs.
-//   - z1, z2, c1, c2, t1, t2 and b are uniform, independent, and new for each call. No call can check that.
+//   - z1, z2, c1, c2, t1, t2 and b are uniform, independent of each other and of word and bit, and new for each call. No call
+//     can check that.
 //
 // What is proved of the source:
 //   - Every call returns, and writes only the three bytes it is lent.
@@ -170,7 +171,8 @@ uint32_t cippazhey_encrypt_frame(const uint8_t plaintext[16], const uint8_t key1
 // What is not cleared: the call's own stack and registers. Shares of the word, of the bit and of the half stay there: overwrite
 // that stack (docs/PERFORMANCE.md says how deep it is), or let nobody read it.
 //
-// Returned is the refusal. Only the width and a number that is too large are refused, in this order.
+// Returned is the refusal. Only the width and a number that is too large are refused, in this order. Look at it first: what a
+// refused call leaves looks like three shares.
 uint32_t cippazhey_select(uint32_t width, uint32_t z0, uint32_t z1, uint32_t z2, uint32_t c0, uint32_t c1, uint32_t c2,
                           uint32_t t1, uint32_t t2, uint32_t b, uint8_t *share0, uint8_t *share1, uint8_t *share2);
 

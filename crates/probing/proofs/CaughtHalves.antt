@@ -1,5 +1,6 @@
--- Pairs with halves of words that leak, and that the leak test therefore must not pass: one for each part of the test that keeps halves
--- sound. Each is shown to leak by the counts of the two values 0 and 0 for two lists of secrets.
+-- Pairs with a secret bit and halves of words that leak, and that the leak test therefore must not pass: one at least for each clause about
+-- halves and the exchange that, left out, lets such a pair through. Each is shown to leak by the counts of the two values 0 and 0 for two
+-- lists of secrets.
 use mathlib.Core.Path.{_≡_, refl}
 use mathlib.Core.Bool.{Bool, true, cond, not, _&&_}
 use mathlib.Core.List.{List, [], _∷_}
@@ -35,9 +36,9 @@ small last = 2 ∷ 1 ∷ 1 ∷ last ∷ []
 abbrev large : List ℕ
 large = 4 ∷ 1 ∷ 2 ∷ 0 ∷ []
 
--- a table that is not among the system's may hold anything, here 1
+-- tables that are not among the system's may hold anything, here 1 and the index itself
 abbrev setting : List ℕ → Setting
-setting ws = record { width = λ class. getD ws class 0; tables = λ t z. 1 }
+setting ws = record { width = λ class. getD ws class 0; tables = λ t z. cond (eqb t 0) 1 z }
 
 abbrev leak : (widths : List ℕ) → (part word bit : ℕ) → (one other : Expression) → Leak
 leak ws part word bit one other = record { widths = ws; part = part; word = word; bit = bit; one = one; other = other }
@@ -62,22 +63,33 @@ highest word = half 2 (number 1 0) word
 
 leaking : List Leak
 leaking =
+    -- the bit bare, looked up, compared, or beside its mask
+    leak (small 0) 2 0 1 (secret 1) (mask 4)
+    ∷ leak (small 0) 2 0 1 (lookup 1 (secret 1)) (mask 4)
+    ∷ leak (small 0) 2 0 1 (differ (secret 1) (number 1 0)) (mask 4)
+    ∷ leak (small 0) 2 0 1 (mask 4 ⊞ secret 1) (mask 4)
     -- a chosen half beside its word, beside the high half, and beside the low one chosen by a number above 1
-    leak (small 0) 2 0 1 chosen (mask 0 ⊞ number 0 1)
+    ∷ leak (small 0) 2 0 1 chosen (mask 0 ⊞ number 0 1)
     ∷ leak (small 0) 2 0 1 chosen (highest (mask 0))
     ∷ leak large 2 0 1 chosen (half 2 (secret 1 ⊞ number 2 2) (mask 0))
-    -- chosen by a half of the same word
-    ∷ leak (small 0) 1 0 1 (half 1 (secret 1 ⊞ half 1 (number 1 0) (mask 0)) (mask 0)) (mask 1)
-    -- of a word that is public, an entry, a comparison or itself a half; and a half of another width
-    ∷ leak (small 0) 2 0 1 (half 2 (secret 1) (number 0 1)) (mask 1)
-    ∷ leak (small 0) 2 0 1 (half 2 (secret 1) (lookup 0 (mask 0))) (mask 1)
-    ∷ leak (small 0) 2 0 1 (half 2 (secret 1) (differ (mask 4) (mask 5))) (mask 1)
-    ∷ leak (small 0) 2 0 1 (half 2 (secret 1) (highest (mask 0))) (mask 1)
-    ∷ leak (small 0) 2 0 1 (half 0 (secret 1) (mask 0)) (mask 1)
-    -- a shift that moves the bit, or the word
+    -- chosen by a half of the same word, or by a comparison of it
+    ∷ leak (small 0) 1 0 1 (half 1 (secret 1 ⊞ half 1 (number 1 0) (mask 0)) (mask 0)) (mask 4)
+    ∷ leak (small 0) 2 0 1 (half 2 (secret 1 ⊞ differ (mask 0) (number 0 1)) (mask 0)) (mask 4)
+    -- of a word that is public or in part, an entry, a comparison, itself a half, or of another class; and a half of another width
+    ∷ leak (small 0) 2 0 1 (half 2 (secret 1) (number 0 1)) (mask 4)
+    ∷ leak (small 0) 2 0 1 (half 2 (secret 1) (mask 0 ⊞ number 0 1)) chosen
+    ∷ leak (small 0) 2 0 1 (half 2 (secret 1) (lookup 0 (mask 0))) (mask 4)
+    ∷ leak (small 0) 2 0 1 (half 2 (secret 1) (differ (mask 4) (mask 5))) (mask 2)
+    ∷ leak (small 0) 2 0 1 (half 2 (secret 1) (highest (mask 0))) (mask 4)
+    ∷ leak (small 0) 2 0 1 (half 2 (secret 1) (mask 4)) (mask 5)
+    ∷ leak (small 0) 2 0 1 (half 0 (secret 1) (mask 0)) (mask 4)
+    -- a shift that moves the bit, or the word; a half of which that can't be told, as a bit or as a word
     ∷ leak (small 0) 2 0 1 (half 2 (secret 1 ⊞ mask 2) (mask 0)) (half 2 (mask 2) (mask 0))
     ∷ leak (small 0) 2 2 0 (highest (secret 0 ⊞ mask 0)) (highest (mask 0))
-    -- a mask that is narrower than the half: of a wider word, or of another class
+    ∷ leak (small 0) 2 0 1 (half 2 chosen (number 0 1)) (mask 0 ⊞ number 0 1)
+    ∷ leak (small 0) 2 0 1 (half 2 (number 1 1) chosen) (mask 0 ⊞ number 0 1)
+    -- a mask that is narrower than the half: one bit, under a half of a wider word, or of another class
+    ∷ leak large 2 0 1 (chosen ⊞ mask 2) (highest (mask 0))
     ∷ leak (small 3) 2 0 1 (half 2 (secret 1) (number 3 6) ⊞ mask 4) (mask 1)
     ∷ leak (small 0) 2 0 1 (half 3 (secret 1) (mask 0) ⊞ mask 6) (mask 1)
     -- a mask that is there, in the word or in the bit

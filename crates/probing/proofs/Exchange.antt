@@ -1,5 +1,5 @@
--- The rule of halves is sound: where a bit is flipped and the halves of every word are exchanged, two expressions that are turned keep their
--- values, and the words are changed back by shifts.
+-- The exchange rule is sound: where a bit is flipped and the halves of every word are exchanged, two expressions that pass keep their values,
+-- and the words are changed back by shifts.
 use mathlib.Core.Path.{_≡_, refl, sym, ap, ap₂, fun-ext, _∙_}
 use mathlib.Core.Bool.{Bool, true, false, cond, not, _&&_, _||_}
 use mathlib.Core.Logic.{_⊎_, inl, inr}
@@ -19,7 +19,7 @@ use Rattle.counting.proofs.Over.{Reorders, over-ext, over-reordered}
 use Rattle.probing.specs.Expression.{Expression, secret, mask, number, _⊞_, lookup, differ, half, System, Setting, value}
 use Rattle.probing.specs.Alike.{widths, Valid, Alike, Known}
 use Rattle.probing.specs.Search.{each-place}
-use Rattle.probing.specs.Test.{off-by, shiftable, of-class, is-word, wordless, wordy, flipped, turned, exchangeable}
+use Rattle.probing.specs.Test.{off-by, shiftable, of-class, is-word, reads-no-word, sum-of-words, flipped, kept-by-exchange, exchangeable}
 use Rattle.probing.proofs.Bool.{not-false}
 use Rattle.probing.proofs.Change.{changed, within-change}
 use Rattle.probing.proofs.Offset.{shifting, off-by-value}
@@ -112,91 +112,91 @@ module _ (system : System) (setting : Setting) {hs ts : ℕ → ℕ} (known : Kn
     moved-masks i = moved-at system setting (system .masks) i (c i)
 
     -- what reads no word sees only the bit
-    wordless-value : (e : Expression) → T (wordless system j e) → value setting us moved-masks e ≡ value setting (change j v vs) c e
-    unfolding value wordless
-    wordless-value (secret k) t =
-        us-at k ∙ wordless-by-cases (eqb k j) (or-yes (eqb k j) (not (is-word system words k)) t) ∙ sym (changed j v vs k)
+    unread-value : (e : Expression) → T (reads-no-word system j e) → value setting us moved-masks e ≡ value setting (change j v vs) c e
+    unfolding value reads-no-word
+    unread-value (secret k) t =
+        us-at k ∙ unread-by-cases (eqb k j) (or-yes (eqb k j) (not (is-word system words k)) t) ∙ sym (changed j v vs k)
       where
-        wordless-by-cases : (same : Bool) → T same ⊎ T (not (is-word system words k))
+        unread-by-cases : (same : Bool) → T same ⊎ T (not (is-word system words k))
             → cond same v (moved-at system setting words k (vs k)) ≡ cond same v (vs k)
-        wordless-by-cases true h = refl
-        wordless-by-cases false (inl h) = absurd h
-        wordless-by-cases false (inr h) = moved-other system setting words k (vs k) h
-    wordless-value (mask i) t = moved-other system setting (system .masks) i (c i) t
-    wordless-value (number class a) t = refl
-    wordless-value (e ⊞ f) t =
-        let both = and-yes (wordless system j e) (wordless system j f) t in
-        ap₂ _⊕_ (wordless-value e (both .0)) (wordless-value f (both .1))
-    wordless-value (lookup n e) t = ap (setting .tables n) (wordless-value e t)
-    wordless-value (differ e f) t =
-        let both = and-yes (wordless system j e) (wordless system j f) t in
-        ap₂ (λ a b. cond (eqb a b) 0 1) (wordless-value e (both .0)) (wordless-value f (both .1))
-    wordless-value (half k s w) t = absurd t
+        unread-by-cases true h = refl
+        unread-by-cases false (inl h) = absurd h
+        unread-by-cases false (inr h) = moved-other system setting words k (vs k) h
+    unread-value (mask i) t = moved-other system setting (system .masks) i (c i) t
+    unread-value (number class a) t = refl
+    unread-value (e ⊞ f) t =
+        let both = and-yes (reads-no-word system j e) (reads-no-word system j f) t in
+        ap₂ _⊕_ (unread-value e (both .0)) (unread-value f (both .1))
+    unread-value (lookup n e) t = ap (setting .tables n) (unread-value e t)
+    unread-value (differ e f) t =
+        let both = and-yes (reads-no-word system j e) (reads-no-word system j f) t in
+        ap₂ (λ a b. cond (eqb a b) 0 1) (unread-value e (both .0)) (unread-value f (both .1))
+    unread-value (half k s w) t = absurd t
 
     -- a sum of words has its halves exchanged
-    wordy-value : (e : Expression) → T (wordy system j e)
+    sum-value : (e : Expression) → T (sum-of-words system j e)
         → (value setting us moved-masks e ≡ exchanged (l system setting) (value setting vs c e))
         × (value setting vs c e < 2 ^ (l system setting + l system setting))
-    unfolding value wordy
-    wordy-value (secret k) t =
+    unfolding value sum-of-words
+    sum-value (secret k) t =
         let both = and-yes (not (eqb k j)) (is-word system words k) t in (
           us-at k ∙ rw (not-false (eqb k j) (both .0)) (moved-word system setting words k (vs k) (both .1)),
           word-below system setting (known .halves) words vs valid k (both .1),
         )
-    wordy-value (mask i) t =
+    sum-value (mask i) t =
         (moved-word system setting (system .masks) i (c i) t, word-below system setting (known .halves) (system .masks) c within i t)
-    wordy-value (number class a) t = absurd t
-    wordy-value (e ⊞ f) t =
-        let both = and-yes (wordy system j e) (wordy system j f) t in
-        let first = wordy-value e (both .0) in
-        let second = wordy-value f (both .1) in
+    sum-value (number class a) t = absurd t
+    sum-value (e ⊞ f) t =
+        let both = and-yes (sum-of-words system j e) (sum-of-words system j f) t in
+        let first = sum-value e (both .0) in
+        let second = sum-value f (both .1) in
         (rw (first .0, second .0) (sym (exchanged-sum (l system setting) _ _)), below _ (first .1) (second .1))
-    wordy-value (lookup n e) t = absurd t
-    wordy-value (differ e f) t = absurd t
-    wordy-value (half k s w) t = absurd t
+    sum-value (lookup n e) t = absurd t
+    sum-value (differ e f) t = absurd t
+    sum-value (half k s w) t = absurd t
 
     module _ (flips : vs j ⊕ v ≡ 1) where
       flipped-value : (s : Expression) → T (flipped system j s)
           → (value setting us moved-masks s ≡ value setting vs c s ⊕ 1) × (value setting vs c s < 2)
       unfolding flipped
       flipped-value s t =
-          let all = and-yes (wordless system j s && off-by j [] true s) (of-class system (system .bit) s) t in
-          let both = and-yes (wordless system j s) (off-by j [] true s) (all .0) in
+          let all = and-yes (reads-no-word system j s && off-by j [] true s) (of-class system (system .bit) s) t in
+          let both = and-yes (reads-no-word system j s) (off-by j [] true s) (all .0) in
           let unshifted : (λ i. c i ⊕ shifting [] (vs j ⊕ v) i) ≡ c = fun-ext (λ i. zero-r (c i)) in (
-            wordless-value s (both .0)
+            unread-value s (both .0)
                 ∙ (rw (unshifted, flips) at (off-by-value setting j [] vs v c true s (both .1))),
             rw (known .bit) at (class-below system setting known valid within (system .bit) s (all .1)),
           )
 
-      turned-value : (e : Expression) → T (turned system j e) → value setting us moved-masks e ≡ value setting vs c e
-      unfolding value turned
-      turned-value (secret k) t =
+      kept-value : (e : Expression) → T (kept-by-exchange system j e) → value setting us moved-masks e ≡ value setting vs c e
+      unfolding value kept-by-exchange
+      kept-value (secret k) t =
           let both = and-yes (not (eqb k j)) (not (is-word system words k)) t in
           us-at k ∙ rw (not-false (eqb k j) (both .0)) (moved-other system setting words k (vs k) (both .1))
-      turned-value (mask i) t = moved-other system setting (system .masks) i (c i) t
-      turned-value (number class a) t = refl
-      turned-value (e ⊞ f) t =
-          let both = and-yes (turned system j e) (turned system j f) t in
-          ap₂ _⊕_ (turned-value e (both .0)) (turned-value f (both .1))
-      turned-value (lookup n e) t = ap (setting .tables n) (turned-value e t)
-      turned-value (differ e f) t =
-          let both = and-yes (turned system j e) (turned system j f) t in
-          ap₂ (λ a b. cond (eqb a b) 0 1) (turned-value e (both .0)) (turned-value f (both .1))
-      turned-value (half k s w) t =
-          let all = and-yes (eqb k (system .part) && flipped system j s) (wordy system j w) t in
+      kept-value (mask i) t = moved-other system setting (system .masks) i (c i) t
+      kept-value (number class a) t = refl
+      kept-value (e ⊞ f) t =
+          let both = and-yes (kept-by-exchange system j e) (kept-by-exchange system j f) t in
+          ap₂ _⊕_ (kept-value e (both .0)) (kept-value f (both .1))
+      kept-value (lookup n e) t = ap (setting .tables n) (kept-value e t)
+      kept-value (differ e f) t =
+          let both = and-yes (kept-by-exchange system j e) (kept-by-exchange system j f) t in
+          ap₂ (λ a b. cond (eqb a b) 0 1) (kept-value e (both .0)) (kept-value f (both .1))
+      kept-value (half k s w) t =
+          let all = and-yes (eqb k (system .part) && flipped system j s) (sum-of-words system j w) t in
           let both = and-yes (eqb k (system .part)) (flipped system j s) (all .0) in
           let bit = flipped-value s (both .1) in
-          let word = wordy-value w (all .1) in
+          let word = sum-value w (all .1) in
           rw (eqb→eq k (system .part) (both .0), bit .0, word .0) (same-half (l system setting) _ _ (bit .1) (word .1))
 
   -- both keep their values, over all choices
-  turned-alike : vs j ⊕ v ≡ 1 → (e f : Expression) → T (turned system j e) → T (turned system j f) → Alike system setting vs us e f
-  turned-alike flips e f t u g =
+  kept-alike : vs j ⊕ v ≡ 1 → (e f : Expression) → T (kept-by-exchange system j e) → T (kept-by-exchange system j f) → Alike system setting vs us e f
+  kept-alike flips e f t u g =
       sym
       (sym
       (over-reordered (widths setting (system .masks)) (λ c. g (value setting us c e) (value setting us c f))
       (moved-at system setting (system .masks)) (reorders system setting (known .halves) (system .masks)))
-      ∙ over-ext _ (λ c within. ap₂ g (turned-value c within flips e t) (turned-value c within flips f u)))
+      ∙ over-ext _ (λ c within. ap₂ g (kept-value c within flips e t) (kept-value c within flips f u)))
 
   -- a place whose halves were not exchanged is as it was; the others are changed back
   back : (e f : Expression) → T (each-place words (λ k class. not (is-word system words k) || shiftable system k class false e f))
@@ -221,16 +221,16 @@ unfolding exchangeable
 exchanged-alike system setting known {vs} valid j class size v small e f t =
     let words-back = each-place (system .secrets)
     (λ k c. not (is-word system (system .secrets) k) || shiftable system k c false e f) in
-    let all = and-yes (eqb class (system .bit) && turned system j e && turned system j f) words-back t in
-    let both = and-yes (eqb class (system .bit) && turned system j e) (turned system j f) (all .0) in
-    let first = and-yes (eqb class (system .bit)) (turned system j e) (both .0) in
+    let all = and-yes (eqb class (system .bit) && kept-by-exchange system j e && kept-by-exchange system j f) words-back t in
+    let both = and-yes (eqb class (system .bit) && kept-by-exchange system j e) (kept-by-exchange system j f) (all .0) in
+    let first = and-yes (eqb class (system .bit)) (kept-by-exchange system j e) (both .0) in
     let wide : width (widths setting (system .secrets)) j ≡ 1 = size ∙ ap (setting .width) (eqb→eq class (system .bit) (first .0)) ∙ known .bit in
     by-cases (eqb (vs j) v) refl (rw wide at (valid .each j)) (rw wide at small) (first .1) (both .1) (all .1)
   where
-    by-cases : (same : Bool) → eqb (vs j) v ≡ same → vs j < 2 → v < 2 → T (turned system j e) → T (turned system j f)
+    by-cases : (same : Bool) → eqb (vs j) v ≡ same → vs j < 2 → v < 2 → T (kept-by-exchange system j e) → T (kept-by-exchange system j f)
         → T (each-place (system .secrets) (λ k c. not (is-word system (system .secrets) k) || shiftable system k c false e f))
         → Alike system setting vs (change j v vs) e f
     by-cases true same h k t u b g = rw (← eqb-true (vs j) v same, change-same j vs)
     by-cases false other h k t u b g =
-        turned-alike system setting known valid j v small (different-bits (vs j) v h k (eqb-false (vs j) v other)) e f t u g
+        kept-alike system setting known valid j v small (different-bits (vs j) v h k (eqb-false (vs j) v other)) e f t u g
         ∙ back system setting known valid j v small e f b g

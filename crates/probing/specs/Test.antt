@@ -1,9 +1,10 @@
 -- The leak test. `fine system e f` computes, and where it passes, whoever sees the values of e and f learns nothing of the secrets: for
--- every even table and all widths, whatever is computed from the two comes out equally often whatever the secrets are. That is `Alike`,
--- and `alike` of proofs/Sound proves it, so nothing here need be believed. To test an algorithm, list its masks, secrets and tables as
--- a System, write each value that it shows as an expression, and run `all-fine` on lists of them; one probe alone is an expression
--- beside itself. The test reads the class of a public number and never its value, which may be a variable. It may fail where nothing
--- leaks.
+-- every even table and all widths, a word being twice as wide as its halves and a bit one bit wide, whatever is computed from the two comes
+-- out equally often whatever the secrets are. That is `Alike`, and `alike` of proofs/Sound proves it, so nothing here need be believed. To
+-- test an algorithm, list its masks, secrets and tables as a System, write each value that it shows as an expression, and run `all-fine` on
+-- lists of them; one probe alone is an expression beside itself. A system has one class of words with halves: where there are none, `word` and
+-- `part` are a class of width 0. The test reads the class of a public number and never its value, which may be a variable. It may fail where
+-- nothing leaks.
 use mathlib.Core.Bool.{Bool, true, false, cond, not, _&&_, _||_, Bool·beq, xor}
 use mathlib.Core.List.{List, [], _∷_}
 use Prim.Native.Nat.{ℕ, zero, suc}
@@ -110,7 +111,7 @@ masked system j class e f =
     let rule = covered system j class i k e f (standing i e) in
     absent i f && rule)
 
--- The rule of halves, where the secret at place j is a bit. It is flipped, and the two halves of every word, mask or other secret, are
+-- The exchange rule, where the secret at place j is a bit. It is flipped, and the two halves of every word, mask or other secret, are
 -- exchanged.
 -- Whether the number at a place is such a word,
 unfoldable pub is-word : System → (classes : List ℕ) → (place : ℕ) → Bool
@@ -119,49 +120,50 @@ is-word system (k ∷ ks) zero = eqb k (system .word)
 is-word system (k ∷ ks) (suc i) = is-word system ks i
 
 -- whether an expression reads none, so that of the change it sees only the bit's,
-unfoldable pub wordless : System → (place : ℕ) → Expression → Bool
+unfoldable pub reads-no-word : System → (place : ℕ) → Expression → Bool
 unfolding is-word
-wordless system j (secret k) = eqb k j || not (is-word system (system .secrets) k)
-wordless system j (mask i) = not (is-word system (system .masks) i)
-wordless system j (number class a) = true
-wordless system j (e ⊞ f) = wordless system j e && wordless system j f
-wordless system j (lookup t e) = wordless system j e
-wordless system j (differ e f) = wordless system j e && wordless system j f
-wordless system j (half k s w) = false
+reads-no-word system j (secret k) = eqb k j || not (is-word system (system .secrets) k)
+reads-no-word system j (mask i) = not (is-word system (system .masks) i)
+reads-no-word system j (number class a) = true
+reads-no-word system j (e ⊞ f) = reads-no-word system j e && reads-no-word system j f
+reads-no-word system j (lookup t e) = reads-no-word system j e
+reads-no-word system j (differ e f) = reads-no-word system j e && reads-no-word system j f
+reads-no-word system j (half k s w) = false
 
 -- and whether it is a sum of them, so that its halves are exchanged;
-unfoldable pub wordy : System → (place : ℕ) → Expression → Bool
+unfoldable pub sum-of-words : System → (place : ℕ) → Expression → Bool
 unfolding is-word
-wordy system j (secret k) = not (eqb k j) && is-word system (system .secrets) k
-wordy system j (mask i) = is-word system (system .masks) i
-wordy system j (number class a) = false
-wordy system j (e ⊞ f) = wordy system j e && wordy system j f
-wordy system j (lookup t e) = false
-wordy system j (differ e f) = false
-wordy system j (half k s w) = false
+sum-of-words system j (secret k) = not (eqb k j) && is-word system (system .secrets) k
+sum-of-words system j (mask i) = is-word system (system .masks) i
+sum-of-words system j (number class a) = false
+sum-of-words system j (e ⊞ f) = sum-of-words system j e && sum-of-words system j f
+sum-of-words system j (lookup t e) = false
+sum-of-words system j (differ e f) = false
+sum-of-words system j (half k s w) = false
 
 -- the expression is a bit that is flipped, so that of an exchanged word it chooses the same number;
 unfoldable pub flipped : System → (place : ℕ) → Expression → Bool
-unfolding wordless off-by of-class
-flipped system j s = wordless system j s && off-by j [] true s && of-class system (system .bit) s
+unfolding reads-no-word off-by of-class
+flipped system j s = reads-no-word system j s && off-by j [] true s && of-class system (system .bit) s
 
 -- and so the expression keeps its value
-unfoldable pub turned : System → (place : ℕ) → Expression → Bool
-unfolding is-word wordy flipped
-turned system j (secret k) = not (eqb k j) && not (is-word system (system .secrets) k)
-turned system j (mask i) = not (is-word system (system .masks) i)
-turned system j (number class a) = true
-turned system j (e ⊞ f) = turned system j e && turned system j f
-turned system j (lookup t e) = turned system j e
-turned system j (differ e f) = turned system j e && turned system j f
-turned system j (half k s w) = eqb k (system .part) && flipped system j s && wordy system j w
+unfoldable pub kept-by-exchange : System → (place : ℕ) → Expression → Bool
+unfolding is-word sum-of-words flipped
+kept-by-exchange system j (secret k) = not (eqb k j) && not (is-word system (system .secrets) k)
+kept-by-exchange system j (mask i) = not (is-word system (system .masks) i)
+kept-by-exchange system j (number class a) = true
+kept-by-exchange system j (e ⊞ f) = kept-by-exchange system j e && kept-by-exchange system j f
+kept-by-exchange system j (lookup t e) = kept-by-exchange system j e
+kept-by-exchange system j (differ e f) = kept-by-exchange system j e && kept-by-exchange system j f
+kept-by-exchange system j (half k s w) = eqb k (system .part) && flipped system j s && sum-of-words system j w
 
--- Both expressions keep their values; and each other secret whose halves were exchanged is changed back by a shift.
+-- Both expressions keep their values, and each other secret whose halves were exchanged is changed back by a shift. That the secret is a bit
+-- and that the words go back is asked here so that the rule is sound for this secret by itself.
 unfoldable pub exchangeable : System → (place class : ℕ) → Expression → Expression → Bool
-unfolding turned is-word shiftable each-place
+unfolding kept-by-exchange is-word shiftable each-place
 exchangeable system j class e f =
     let words-back = each-place (system .secrets) (λ k c. not (is-word system (system .secrets) k) || shiftable system k c false e f) in
-    eqb class (system .bit) && turned system j e && turned system j f && words-back
+    eqb class (system .bit) && kept-by-exchange system j e && kept-by-exchange system j f && words-back
 
 -- whether a change of one secret is unseen: by a shift, by one of the two rules for a mask with e and f either way round, or by halves
 unfoldable pub unseen : System → (place class : ℕ) → Expression → Expression → Bool

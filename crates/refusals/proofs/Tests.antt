@@ -5,7 +5,7 @@ use mathlib.Core.List.{List, [], _∷_, _++_}
 use Prim.Native.Nat.{ℕ, zero, suc, _+_, _^_, _≤_, _<_}
 use native.Mathlib.Numerals.{add-one}
 use native.Mathlib.Omega.{arith}
-use borrow.Author.Tests.{leb-false, ltb-false, le-leb, lt-leb, le-ltb}
+use borrow.Author.Tests.{leb-false, ltb-false, le-leb, lt-leb, lt-ltb, le-ltb}
 use lib.Dec.{leb, ltb}
 use lib.ListN.{length, getD, drop, replicate, drop-of-length-le}
 use lib.Seq.{drop-cons}
@@ -26,6 +26,14 @@ inside low high value e =
 pub not-outside : {low high value : ℕ} → low ≤ value → value ≤ high → outside low high value ≡ false
 unfolding outside
 not-outside h k = rw (le-ltb _ _ h, le-ltb _ _ k)
+
+pub below-outside : (low high value : ℕ) → value < low → outside low high value ≡ true
+unfolding outside
+below-outside low high value h = rw (lt-ltb value low h)
+
+pub above-outside : (low high value : ℕ) → high < value → outside low high value ≡ true
+unfolding outside
+above-outside low high value h = rw (lt-ltb high value h) (or-true (ltb value low))
 
 -- no number is the least or more: the first is less, and so with the rest
 pub all-below : (least x : ℕ) (xs : List ℕ) → any-from least (x ∷ xs) ≡ false → (x < least) × (any-from least xs ≡ false)

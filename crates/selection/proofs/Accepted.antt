@@ -1,13 +1,14 @@
 -- What an accepted selection has passed: its bounds, and a log that is long enough; and that nothing else is refused.
-use mathlib.Core.Path.{_≡_, sym, _∙_}
+use mathlib.Core.Path.{_≡_, refl, sym, _∙_}
+use mathlib.Core.Bool.{Bool, true, false, cond}
 use mathlib.Core.List.{List, [], _∷_, _++_}
-use Prim.Native.Nat.{ℕ, _*_, _^_, _≤_}
+use Prim.Native.Nat.{ℕ, _*_, _^_, _≤_, _<_}
 use native.Mathlib.Omega.{arith}
 use borrow.Author.Tests.{ltb-false}
 use lib.Dec.{ltb}
 use lib.ListN.{length}
 use lib.Pow.{pow-mono}
-use Rattle.refusals.specs.Checks.{_when_}
+use Rattle.refusals.specs.Checks.{_when_, first-of}
 use Rattle.refusals.specs.Tests.{outside, any-from}
 use Rattle.refusals.proofs.Checks.{goes, none-applies, passed, passed-both}
 use Rattle.refusals.proofs.Tests.{inside, not-outside, all-below, one-below, none-below}
@@ -15,6 +16,25 @@ use Rattle.selection.specs.declared.Selection.{Selection}
 use Rattle.selection.specs.Bounded.{Bounded}
 use Rattle.selection.specs.Select.{width-checks, word-checks, bit-checks, mask-checks, plain-select-refusal, select-refusal}
 use Rattle.selection.proofs.Checking.{all-numbered}
+
+-- the bounds, from those that the calls ask for
+pub bounded-by : (s : Selection) → s .width ≤ 8 → s .z0 < 2 ^ (2 * s .width) → s .z1 < 2 ^ (2 * s .width) → s .z2 < 2 ^ (2 * s .width)
+    → s .c0 < 2 → s .c1 < 2 → s .c2 < 2 → s .b < 2 → s .t1 < 2 ^ s .width → s .t2 < 2 ^ s .width → Bounded s
+bounded-by s most z0 z1 z2 c0 c1 c2 b t1 t2 =
+    record {
+      width-most = most;
+      halves-most = pow-mono most;
+      words-most = pow-mono {j = 16} (omega arith);
+      z0 = z0;
+      z1 = z1;
+      z2 = z2;
+      c0 = c0;
+      c1 = c1;
+      c2 = c2;
+      b = b;
+      t1 = t1;
+      t2 = t2;
+    }
 
 pub plain-bounded : (s : Selection) → plain-select-refusal s ≡ 0 → Bounded s
 unfolding plain-select-refusal width-checks word-checks bit-checks mask-checks
@@ -32,21 +52,28 @@ plain-bounded s e =
     let b = all-below _ _ _ (c2 .1) in
     let t1 = all-below _ _ _ (masks .0) in
     let t2 = all-below _ _ _ (t1 .1) in
-    let most = inside 1 8 (s .width) (width .0) .1 in
-    record {
-      width-most = most;
-      halves-most = pow-mono most;
-      words-most = pow-mono {j = 16} (omega arith);
-      z0 = z0 .0;
-      z1 = z1 .0;
-      z2 = z2 .0;
-      c0 = c0 .0;
-      c1 = c1 .0;
-      c2 = c2 .0;
-      b = b .0;
-      t1 = t1 .0;
-      t2 = t2 .0;
-    }
+    bounded-by s (inside 1 8 (s .width) (width .0) .1) (z0 .0) (z1 .0) (z2 .0) (c0 .0) (c1 .0) (c2 .0) (b .0) (t1 .0) (t2 .0)
+
+pub plain-least : (s : Selection) → plain-select-refusal s ≡ 0 → 1 ≤ s .width
+unfolding plain-select-refusal width-checks
+plain-least s e = inside 1 8 (s .width) (passed (outside 1 8 (s .width)) 19 _ e .0) .0
+
+-- a width that is one of the calls' is not refused with 20
+pub large-number : (s : Selection) → 1 ≤ s .width → s .width ≤ 8 → (plain-select-refusal s ≡ 0 → ⊥) → plain-select-refusal s ≡ 21
+unfolding plain-select-refusal width-checks word-checks bit-checks mask-checks first-of
+large-number s least most some =
+    let fine = not-outside {low = 1} {high = 8} {value = s .width} least most in
+    rw fine (either (any-from (2 ^ (2 * s .width)) (s .z0 ∷ s .z1 ∷ s .z2 ∷ [])) (any-from 2 (s .c0 ∷ s .c1 ∷ s .c2 ∷ s .b ∷ []))
+    (any-from (2 ^ s .width) (s .t1 ∷ s .t2 ∷ [])) (rw fine at some))
+  where
+    number : (p q r : Bool) → ℕ
+    number p q r = cond p 21 (cond q 21 (cond r 21 0))
+
+    either : (p q r : Bool) → (number p q r ≡ 0 → ⊥) → number p q r ≡ 21
+    either true q r h = refl
+    either false true r h = refl
+    either false false true h = refl
+    either false false false h = absurd (h refl)
 
 -- and a selection within its bounds, whose width is not 0, passes them
 pub not-refused : (s : Selection) → 1 ≤ s .width → Bounded s → plain-select-refusal s ≡ 0

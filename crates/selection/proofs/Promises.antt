@@ -1,11 +1,13 @@
 -- What is promised of both calls that choose a half holds.
 use mathlib.Core.Path.{_≡_, refl, sym, ap, _∙_}
+use mathlib.Core.Bool.{true}
 use mathlib.Core.List.{List}
 use Prim.Native.Nat.{ℕ}
 use Rattle.bits.specs.Xor.{_⊕_}
 use Rattle.refusals.specs.Checks.{first-of}
 use Rattle.table.specs.Balanced.{at}
 use Rattle.refusals.specs.Tests.{outside, any-from}
+use Rattle.refusals.proofs.Tests.{below-outside, above-outside}
 use Rattle.refusals.specs.Left.{left}
 use Rattle.refusals.proofs.Left.{left-refused, left-accepted}
 use Rattle.buffers.specs.Written.{in-front}
@@ -17,9 +19,9 @@ use Rattle.selection.specs.Select.{width-checks, word-checks, bit-checks
 use Rattle.selection.specs.Select.{selected, select-reply, select-log, plain-select-share}
 use Rattle.selection.specs.Order.{Selection-worked, Order-worked}
 use Rattle.selection.specs.Promises.{bit-of, Shares-join, Places-join, Shares-chosen, Shares-small, Log-of-rows}
-use Rattle.selection.specs.Promises.{Accepted-left, Refused-kept, Logged-as-plain}
-use Rattle.selection.proofs.Checking.{at-none}
-use Rattle.selection.proofs.Accepted.{plain-bounded, logged-parts}
+use Rattle.selection.specs.Promises.{Accepted-left, Refused-kept, Logged-as-plain, Refusals-right, Logged-refusals-right}
+use Rattle.selection.proofs.Checking.{at-20, at-plain, at-14, at-none}
+use Rattle.selection.proofs.Accepted.{plain-bounded, plain-least, bounded-by, not-refused, large-number, logged-parts}
 use Rattle.selection.proofs.Replies.{refused-zeros}
 use Rattle.selection.proofs.Logging.{log-long}
 use Rattle.selection.proofs.Choosing.{masked-join, masked-below, bounded-share}
@@ -96,15 +98,34 @@ refused-kept s lent register old = (
 
 pub logged-as-plain : Logged-as-plain
 unfolding Logged-as-plain
-logged-as-plain s lent old0 old1 old2 = (
-  λ e room. sym (at-none s lent 0 (sym e) refl room),
+logged-as-plain s lent old0 old1 old2 e =
+    let both = logged-parts s lent e in
+    let reply = reply-is s lent e in (
+      both .0,
+      both .1,
+      ap (λ (r : Selected). r .first) reply ∙ sym (share-is s 0 old0 (both .0)),
+      ap (λ (r : Selected). r .second) reply ∙ sym (share-is s 1 old1 (both .0)),
+      ap (λ (r : Selected). r .third) reply ∙ sym (share-is s 2 old2 (both .0)),
+    )
+
+pub refusals-right : Refusals-right
+unfolding Refusals-right
+refusals-right s = (
+  λ h. sym (at-20 s true (sym (below-outside 1 8 (s .width) h)) refl),
+  λ h. sym (at-20 s true (sym (above-outside 1 8 (s .width) h)) refl),
+  λ least most some. large-number s least most some,
   λ e.
-      let both = logged-parts s lent e in
-      let reply = reply-is s lent e in (
-        both .0,
-        both .1,
-        ap (λ (r : Selected). r .first) reply ∙ sym (share-is s 0 old0 (both .0)),
-        ap (λ (r : Selected). r .second) reply ∙ sym (share-is s 1 old1 (both .0)),
-        ap (λ (r : Selected). r .third) reply ∙ sym (share-is s 2 old2 (both .0)),
-      ),
+      let k = plain-bounded s e in
+      (plain-least s e, k .width-most, k .z0, k .z1, k .z2, k .c0, k .c1, k .c2, k .b, k .t1, k .t2),
+  λ w.
+      not-refused s (w .0)
+      (bounded-by s (w .1) (w .2) (w .3) (w .4) (w .5) (w .6) (w .7) (w .8) (w .9) (w .10)),
+)
+
+pub logged-refusals-right : Logged-refusals-right
+unfolding Logged-refusals-right
+logged-refusals-right s lent = (
+  λ some. sym (at-plain s lent _ refl some),
+  λ e short. sym (at-14 s lent 0 (sym e) refl short),
+  λ e room. sym (at-none s lent 0 (sym e) refl room),
 )

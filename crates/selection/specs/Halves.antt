@@ -17,19 +17,19 @@ half width bit word = cond (eqb bit 0) (word / 2 ^ width) (word % 2 ^ width)
 unfoldable pub c3 : Selection → ℕ
 c3 s = (s .c1 ⊕ s .b) ⊕ s .c2
 
--- what goes to A, B and C: the half of z0, z1 or z2 that a bit chooses, masked
-unfoldable pub masked : (register : ℕ) → Selection → (bit : ℕ) → ℕ
+-- A, B and C are the pairs 0, 1 and 2. What goes to them: the half of z0, z1 or z2 that a bit chooses, masked
+unfoldable pub masked : (pair : ℕ) → Selection → (bit : ℕ) → ℕ
 masked zero s bit = half (s .width) bit (s .z0) ⊕ s .t1
 masked (suc zero) s bit = half (s .width) bit (s .z1) ⊕ s .t2
 masked (suc (suc _)) s bit = (half (s .width) bit (s .z2) ⊕ s .t1) ⊕ s .t2
 
--- A, B or C, a pair of registers, after steps 4 to 6 and after steps 7 to 9
-unfoldable pub registers : (register : ℕ) → Selection → List ℕ
-registers register s = set (set (0 ∷ 0 ∷ []) (c3 s) (masked register s (s .c0))) (1 - c3 s) (masked register s (1 - s .c0))
+-- a pair after steps 4 to 6, which write one of its registers, and after steps 7 to 9, which write the other
+unfoldable pub registers : (pair : ℕ) → Selection → List ℕ
+registers pair s = set (set (0 ∷ 0 ∷ []) (c3 s) (masked pair s (s .c0))) (1 - c3 s) (masked pair s (1 - s .c0))
 
 -- step 10: the three shares of the half
-unfoldable pub share : (register : ℕ) → Selection → ℕ
-share register s = at (registers register s) (s .b)
+unfoldable pub share : (pair : ℕ) → Selection → ℕ
+share pair s = at (registers pair s) (s .b)
 
 -- the shares of the bit, the masks, and what the place is made of
 unfoldable pub bit-values : Selection → List ℕ

@@ -36,7 +36,7 @@ Order-worked =
     ∷ refused 28 (selection-from 2 6 12 1 1 2 1 1 2 1) ∷ refused 28 (selection-from 2 6 12 1 1 0 2 1 2 1)
     ∷ refused 28 (selection-from 2 6 12 1 1 0 1 4 2 1) ∷ refused 28 (selection-from 2 6 12 1 1 0 1 1 4 1)
     ∷ refused 28 (selection-from 2 6 12 1 1 0 1 1 2 2)
-    -- a log of 27; 20 and 21; 20 and 14; 21 and 14; and a number too large for the call without a log
+    -- a log of 27; 20 and 21; 20 and 14; 21 and 14; and without a log 21, and none
     ∷ refused 27 (worked 1) ∷ refused 28 (selection-from 9 6 12 1 2 0 1 1 2 1) ∷ refused 0 (selection-from 0 0 0 0 0 0 0 0 0 0)
     ∷ refused 0 (worked 2) ∷ plain-select-refusal (worked 2) ∷ plain-select-refusal (worked 1) ∷ []
     ≡ 0 ∷ 20 ∷ 0 ∷ 0 ∷ 20 ∷ 0 ∷ 21 ∷ 21 ∷ 21 ∷ 21 ∷ 21 ∷ 21 ∷ 21 ∷ 21 ∷ 21 ∷ 14 ∷ 20 ∷ 20 ∷ 21 ∷ 21 ∷ 0 ∷ []

@@ -50,5 +50,5 @@ unfoldable pub select-log : Selection → (lent : List ℕ) → List ℕ
 select-log s lent = left (select-refusal s lent) (in-front (log-of s) lent) lent
 
 -- the call without one: what a lent place then holds
-unfoldable pub plain-select-share : (register : ℕ) → Selection → (old : ℕ) → ℕ
-plain-select-share register s old = left (plain-select-refusal s) (share register s) old
+unfoldable pub plain-select-share : (pair : ℕ) → Selection → (old : ℕ) → ℕ
+plain-select-share pair s old = left (plain-select-refusal s) (share pair s) old

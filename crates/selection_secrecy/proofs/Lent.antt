@@ -8,7 +8,6 @@ use native.Mathlib.Omega.{arith}
 use borrow.Author.Tests.{ltb-true, ltb-false}
 use lib.Dec.{ltb}
 use lib.ListN.{length}
-use lib.Pow.{pow-mono}
 use Rattle.bits.proofs.Xor.{below}
 use Rattle.refusals.proofs.Left.{left-refused, left-accepted}
 use Rattle.counting.specs.Choice.{width, Within}
@@ -18,11 +17,11 @@ use Rattle.buffers.proofs.Written.{in-front-at}
 use Rattle.secrecy.specs.Count.{value-at, shows}
 use Rattle.selection.specs.Halves.{log-of}
 use Rattle.selection.specs.Select.{plain-select-refusal, select-log}
-use Rattle.selection.proofs.Accepted.{not-refused}
+use Rattle.selection.proofs.Accepted.{bounded-by, not-refused}
 use Rattle.selection.proofs.Checking.{at-14, at-none}
 use Rattle.selection.proofs.Logging.{log-long}
 use Rattle.selection_secrecy.specs.Count.{selection-widths, chosen-selection, selection-count, select-count}
-use Rattle.selection_secrecy.specs.Promises.{Selection-tells-nothing, Select-tells-nothing, Lent-log-counted, Choices-accepted}
+use Rattle.selection_secrecy.specs.Promises.{Selection-tells-nothing, Select-tells-nothing, Select-counted, Lent-log-counted, Choices-accepted}
 use Rattle.selection_secrecy.proofs.Promises.{selection-tells-nothing}
 
 pub lent-log-counted : Lent-log-counted
@@ -36,31 +35,17 @@ choice-taken : (l z c : ℕ) (choice : ℕ → ℕ) → 1 ≤ l → l ≤ 8 → 
 unfolding chosen-selection selection-widths width
 choice-taken l z c r least most hz hc inside =
     not-refused _ least
-    (record {
-      width-most = most;
-      halves-most = pow-mono most;
-      words-most = pow-mono {j = 16} (omega arith);
-      z0 = below _ (below _ hz (inside .each 0)) (inside .each 1);
-      z1 = inside .each 0;
-      z2 = inside .each 1;
-      c0 = below 1 (below 1 hc (inside .each 2)) (inside .each 3);
-      c1 = inside .each 2;
-      c2 = inside .each 3;
-      b = inside .each 6;
-      t1 = inside .each 4;
-      t2 = inside .each 5;
-    })
+    (bounded-by _ most (below _ (below _ hz (inside .each 0)) (inside .each 1)) (inside .each 0) (inside .each 1)
+    (below 1 (below 1 hc (inside .each 2)) (inside .each 3)) (inside .each 2) (inside .each 3) (inside .each 6) (inside .each 4) (inside .each 5))
 
 pub choices-accepted : Choices-accepted
 unfolding Choices-accepted
 choices-accepted lent l z c choice least most hz hc inside room =
     sym (at-none _ lent 0 (sym (choice-taken l z c choice least most hz hc inside)) refl room)
 
--- the counts are those of the defined log, where the log has room
-counted : (lent : List ℕ) (l z c i j u v : ℕ) → 1 ≤ l → l ≤ 8 → z < 2 ^ (2 * l) → c < 2 → i < 28 → j < 28 → 28 ≤ length lent
-    → select-count lent l z c i j u v ≡ selection-count l z c i j u v
-unfolding select-count selection-count shows value-at Lent-log-counted Choices-accepted
-counted lent l z c i j u v least most hz hc hi hj room =
+pub select-counted : Select-counted
+unfolding Select-counted select-count selection-count shows value-at Lent-log-counted Choices-accepted
+select-counted lent l z c i j u v least most hz hc hi hj room =
     over-ext (selection-widths l)
     (λ r inside.
     let taken = choices-accepted lent l z c r least most hz hc inside room in
@@ -82,13 +67,13 @@ short-counts lent l z z′ c c′ i j u v least most hz hz′ hc hc′ short =
     (λ r inside. rw (kept lent l z c r least most hz hc inside short, kept lent l z′ c′ r least most hz′ hc′ inside short))
 
 pub select-tells-nothing : Select-tells-nothing
-unfolding Select-tells-nothing Selection-tells-nothing
+unfolding Select-tells-nothing Selection-tells-nothing Select-counted
 select-tells-nothing lent l z z′ c c′ i j u v least most hz hz′ hc hc′ hi hj = by-room (ltb (length lent) 28) refl
   where
     by-room : (short : Bool) → ltb (length lent) 28 ≡ short → select-count lent l z c i j u v ≡ select-count lent l z′ c′ i j u v
     by-room true e = short-counts lent l z z′ c c′ i j u v least most hz hz′ hc hc′ (ltb-true _ _ e)
     by-room false e =
         let room = ltb-false _ _ e in
-        counted lent l z c i j u v least most hz hc hi hj room
+        select-counted lent l z c i j u v least most hz hc hi hj room
         ∙ selection-tells-nothing l z z′ c c′ i j u v hz hz′ hc hc′
-        ∙ sym (counted lent l z′ c′ i j u v least most hz′ hc′ hi hj room)
+        ∙ sym (select-counted lent l z′ c′ i j u v least most hz′ hc′ hi hj room)

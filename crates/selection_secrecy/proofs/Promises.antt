@@ -3,7 +3,7 @@ use mathlib.Core.Path.{_≡_, ap, _∙_}
 use Prim.Native.Nat.{_+_, _*_, _^_}
 use native.Mathlib.Omega.{arith}
 use Rattle.bits.specs.Xor.{_⊕_}
-use Rattle.bits.proofs.Xor.{xors}
+use Rattle.bits.proofs.Xor.{xors, below}
 use Rattle.counting.specs.Choice.{_▸_, total}
 use Rattle.counting.proofs.Choice.{within-none, within-more}
 use Rattle.counting.proofs.Over.{choices}
@@ -32,6 +32,8 @@ accepted-chosen lent s e =
     let k = plain-bounded s (logged-parts s lent e .0) in
     let z0 : s .z0 ⊕ s .z1 ⊕ s .z2 ⊕ s .z1 ⊕ s .z2 ≡ s .z0 = simp xors in
     let c0 : s .c0 ⊕ s .c1 ⊕ s .c2 ⊕ s .c1 ⊕ s .c2 ≡ s .c0 = simp xors in (
+      below _ (below _ (k .z0) (k .z1)) (k .z2),
+      below 1 (below 1 (k .c0) (k .c1)) (k .c2),
       s .z1 ▸ s .z2 ▸ s .c1 ▸ s .c2 ▸ s .t1 ▸ s .t2 ▸ s .b ▸ (λ i. 0),
       within-more (k .z1) (within-more (k .z2) (within-more (k .c1) (within-more (k .c2)
           (within-more (k .t1) (within-more (k .t2) (within-more (k .b) within-none)))))),

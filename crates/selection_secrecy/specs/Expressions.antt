@@ -21,38 +21,38 @@ setting l = record { width = class-width l; tables = λ t index. 0 }
 abbrev pub secrets : (word bit : ℕ) → ℕ → ℕ
 secrets z c = z ▸ c ▸ (λ j. 0)
 
-abbrev z0 : Expression
+abbrev pub z0 : Expression
 z0 = secret 0 ⊞ mask 0 ⊞ mask 1
 
-abbrev z1 : Expression
+abbrev pub z1 : Expression
 z1 = mask 0
 
-abbrev z2 : Expression
+abbrev pub z2 : Expression
 z2 = mask 1
 
-abbrev c : Expression
+abbrev pub c : Expression
 c = secret 1
 
-abbrev c1 : Expression
+abbrev pub c1 : Expression
 c1 = mask 2
 
-abbrev c2 : Expression
+abbrev pub c2 : Expression
 c2 = mask 3
 
-abbrev c0 : Expression
+abbrev pub c0 : Expression
 c0 = c ⊞ c1 ⊞ c2
 
-abbrev t1 : Expression
+abbrev pub t1 : Expression
 t1 = mask 4
 
-abbrev t2 : Expression
+abbrev pub t2 : Expression
 t2 = mask 5
 
-abbrev b : Expression
+abbrev pub b : Expression
 b = mask 6
 
 -- 1 - c0 is c0 ⊕ 1
-abbrev other : Expression
+abbrev pub other : Expression
 other = c0 ⊞ number 1 1
 
 -- what is made of the half that a bit chooses

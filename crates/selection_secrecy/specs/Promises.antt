@@ -26,6 +26,12 @@ Select-tells-nothing =
     (lent : List ℕ) (l z z′ c c′ i j u v : ℕ) → 1 ≤ l → l ≤ 8 → z < 2 ^ (2 * l) → z′ < 2 ^ (2 * l) → c < 2 → c′ < 2 → i < 28 → j < 28 →
     select-count lent l z c i j u v ≡ select-count lent l z′ c′ i j u v
 
+-- where the log has room, these counts are those of the log as it is defined
+unfoldable pub Select-counted : Type 0
+Select-counted =
+    (lent : List ℕ) (l z c i j u v : ℕ) → 1 ≤ l → l ≤ 8 → z < 2 ^ (2 * l) → c < 2 → i < 28 → j < 28 → 28 ≤ length lent →
+    select-count lent l z c i j u v ≡ selection-count l z c i j u v
+
 -- each entry that an accepted call leaves is the counted one
 unfoldable pub Lent-log-counted : Type 0
 Lent-log-counted =
@@ -35,7 +41,7 @@ Lent-log-counted =
 unfoldable pub Choices-counted : Type 0
 Choices-counted = (l : ℕ) → over (selection-widths l) (λ r. 1) ≡ 2 ^ (6 * l + 3)
 
--- every one of them is accepted, and there is one for each selection that the call accepts
+-- every one of them is accepted; and of each selection that the call accepts word and bit are such as are counted, and it has its choice
 unfoldable pub Choices-accepted : Type 0
 Choices-accepted =
     (lent : List ℕ) (l z c : ℕ) (choice : ℕ → ℕ) → 1 ≤ l → l ≤ 8 → z < 2 ^ (2 * l) → c < 2 → Within (selection-widths l) choice →
@@ -44,7 +50,7 @@ Choices-accepted =
 unfoldable pub Accepted-chosen : Type 0
 Accepted-chosen =
     (lent : List ℕ) (s : Selection) → select-refusal s lent ≡ 0 →
-    (choice : ℕ → ℕ) × Within (selection-widths (s .width)) choice
+    (s .z0 ⊕ s .z1 ⊕ s .z2 < 2 ^ (2 * s .width)) × (s .c0 ⊕ s .c1 ⊕ s .c2 < 2) × (choice : ℕ → ℕ) × Within (selection-widths (s .width)) choice
     × (chosen-selection (s .width) (s .z0 ⊕ s .z1 ⊕ s .z2) (s .c0 ⊕ s .c1 ⊕ s .c2) choice ≡ s)
 
 -- rows 13 and 27 of a selection of width 1, at positions 12 and 25: the counts of the four pairs of bits over 512 choices, for the word 0 and
