@@ -12,8 +12,8 @@ use Rattle.refusals.specs.Checks.{_when_, first-of}
 use Rattle.refusals.specs.Tests.{outside, any-from}
 use Rattle.refusals.proofs.Checks.{goes, none-applies, passed, passed-both}
 use Rattle.refusals.proofs.Tests.{inside, not-outside, all-below, one-below, none-below}
-use Rattle.selection.specs.declared.Selection.{Selection}
-use Rattle.selection.specs.Bounded.{Bounded}
+use Rattle.halves.specs.declared.Selection.{Selection}
+use Rattle.halves.specs.Bounded.{Bounded}
 use Rattle.selection.specs.Select.{width-checks, word-checks, bit-checks, mask-checks, plain-select-refusal, select-refusal}
 use Rattle.selection.proofs.Checking.{all-numbered}
 

@@ -13,7 +13,7 @@ use Rattle.refusals.specs.Checks.{_when_, first-of}
 use Rattle.refusals.specs.Tests.{outside, any-from}
 use Rattle.refusals.proofs.Checks.{stops, goes, none-applies, stops-both, goes-both, numbered}
 use Rattle.refusals.proofs.Tests.{some-here, some-later, one-below, none-below, inside}
-use Rattle.selection.specs.declared.Selection.{Selection}
+use Rattle.halves.specs.declared.Selection.{Selection}
 use Rattle.selection.specs.Select.{width-checks, word-checks, bit-checks, mask-checks, plain-select-refusal, select-refusal}
 
 module _ (s : Selection) where

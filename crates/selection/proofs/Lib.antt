@@ -2,10 +2,6 @@
 pub mod Checking
 pub mod Accepted
 pub mod Replies
-pub mod Bounds
-pub mod Halving
-pub mod Storing
 pub mod Logging
-pub mod Choosing
 pub mod Rows
 pub mod Promises

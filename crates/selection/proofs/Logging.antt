@@ -10,9 +10,10 @@ use Rattle.lookup.specs.Entry.{entry}
 use Rattle.buffers.specs.Written.{written, in-front}
 use Rattle.buffers.proofs.Written.{written-more, written-front}
 use Rattle.log_entries.specs.Entries.{entries}
-use Rattle.selection.specs.declared.Selection.{Selection}
-use Rattle.selection.specs.Halves.{half, c3, masked, share, bit-values, half-values}
-use Rattle.selection.specs.Halves.{input-entries, half-entries, share-entries, log-of}
+use Rattle.halves.specs.declared.Selection.{Selection}
+use Rattle.halves.specs.Halves.{half, c3, masked, share}
+use Rattle.selection.specs.Log.{bit-values, half-values}
+use Rattle.selection.specs.Log.{input-entries, half-entries, share-entries, log-of}
 use Rattle.selection.specs.Select.{selected}
 
 pub three-written : (log : List ℕ) (u v w e f g : ℕ) → 28 ≤ length log → e ≡ entry 1 u → f ≡ entry 2 v → g ≡ entry 3 w

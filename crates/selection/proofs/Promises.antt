@@ -12,9 +12,10 @@ use Rattle.refusals.specs.Left.{left}
 use Rattle.refusals.proofs.Left.{left-refused, left-accepted}
 use Rattle.buffers.specs.Written.{in-front}
 use Rattle.buffers.proofs.Written.{in-front-take, in-front-drop}
-use Rattle.selection.specs.declared.Selection.{Selection}
+use Rattle.halves.specs.declared.Selection.{Selection}
 use Rattle.selection.specs.declared.Selected.{Selected}
-use Rattle.selection.specs.Halves.{half, c3, masked, registers, share, half-values, log-of}
+use Rattle.halves.specs.Halves.{half, c3, masked, registers, share}
+use Rattle.selection.specs.Log.{half-values, log-of}
 use Rattle.selection.specs.Select.{width-checks, word-checks, bit-checks, mask-checks, plain-select-refusal, select-refusal}
 use Rattle.selection.specs.Select.{selected, select-reply, select-log, plain-select-share}
 use Rattle.selection.specs.Order.{Selection-worked, Order-worked}
@@ -24,7 +25,7 @@ use Rattle.selection.proofs.Checking.{at-20, at-plain, at-14, at-none}
 use Rattle.selection.proofs.Accepted.{plain-bounded, plain-least, bounded-by, not-refused, large-number, logged-parts}
 use Rattle.selection.proofs.Replies.{refused-zeros}
 use Rattle.selection.proofs.Logging.{log-long}
-use Rattle.selection.proofs.Choosing.{masked-join, masked-below, bounded-share}
+use Rattle.halves.proofs.Choosing.{masked-join, masked-below, bounded-share}
 use Rattle.selection.proofs.Rows.{log-read, values-in-table}
 
 pub selection-worked : Selection-worked

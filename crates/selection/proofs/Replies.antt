@@ -4,9 +4,10 @@ use mathlib.Core.List.{List}
 use Prim.Native.Nat.{ℕ, zero, suc}
 use Rattle.refusals.proofs.Left.{left-refused, left-accepted}
 use Rattle.buffers.specs.Written.{in-front}
-use Rattle.selection.specs.declared.Selection.{Selection}
+use Rattle.halves.specs.declared.Selection.{Selection}
 use Rattle.selection.specs.declared.Selected.{Selected}
-use Rattle.selection.specs.Halves.{share, log-of}
+use Rattle.halves.specs.Halves.{share}
+use Rattle.selection.specs.Log.{log-of}
 use Rattle.selection.specs.Select.{plain-select-refusal, select-refusal, selected, select-reply, select-log, plain-select-share}
 
 pub refused-zeros : (k first second third : ℕ) → (k ≡ 0 → ⊥)

@@ -11,13 +11,14 @@ use Rattle.lookup.specs.Entry.{kind-of, value-of}
 use Rattle.lookup.proofs.Entry.{entry-value, value-kept, entry-kind}
 use Rattle.lookup.proofs.Each.{Each, none, more}
 use Rattle.log_entries.specs.Entries.{entries}
-use Rattle.selection.specs.declared.Selection.{Selection}
-use Rattle.selection.specs.Bounded.{Bounded}
-use Rattle.selection.specs.Halves.{c3, masked, share, bit-values, half-values}
-use Rattle.selection.specs.Halves.{input-entries, half-entries, share-entries, log-of}
+use Rattle.halves.specs.declared.Selection.{Selection}
+use Rattle.halves.specs.Bounded.{Bounded}
+use Rattle.halves.specs.Halves.{c3, masked, share}
+use Rattle.selection.specs.Log.{bit-values, half-values}
+use Rattle.selection.specs.Log.{input-entries, half-entries, share-entries, log-of}
 use Rattle.selection.specs.Promises.{table-3}
-use Rattle.selection.proofs.Bounds.{bits-below, c3-below}
-use Rattle.selection.proofs.Choosing.{half-below, masked-below, share-chosen, bounded-share}
+use Rattle.halves.proofs.Bounds.{bits-below, c3-below}
+use Rattle.halves.proofs.Choosing.{half-below, masked-below, share-chosen, bounded-share}
 
 -- every value has room in its entry
 abbrev Room : List ℕ → Type 0

@@ -4,8 +4,9 @@ use mathlib.Core.Path.{_≡_}
 use mathlib.Core.List.{List, [], _∷_}
 use Prim.Native.Nat.{ℕ}
 use lib.ListN.{replicate}
-use Rattle.selection.specs.declared.Selection.{Selection}
-use Rattle.selection.specs.Halves.{share, half-values}
+use Rattle.halves.specs.declared.Selection.{Selection}
+use Rattle.halves.specs.Halves.{share}
+use Rattle.selection.specs.Log.{half-values}
 use Rattle.selection.specs.Select.{selection-from, plain-select-refusal, select-refusal}
 
 abbrev worked : (c0 : ℕ) → Selection

@@ -5,8 +5,9 @@ use Prim.Native.Nat.{ℕ, _*_, _^_, _≤_, _<_}
 use lib.ListN.{length, take, drop}
 use Rattle.bits.specs.Xor.{_⊕_}
 use Rattle.lookup.specs.Entry.{kind-of, value-of}
-use Rattle.selection.specs.declared.Selection.{Selection}
-use Rattle.selection.specs.Halves.{half, share, log-of}
+use Rattle.halves.specs.declared.Selection.{Selection}
+use Rattle.halves.specs.Halves.{half, share}
+use Rattle.selection.specs.Log.{log-of}
 use Rattle.selection.specs.Select.{plain-select-refusal, select-refusal, select-reply, select-log, plain-select-share}
 
 -- the word and the bit, which no call forms

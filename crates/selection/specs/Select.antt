@@ -7,9 +7,10 @@ use Rattle.refusals.specs.Checks.{Check, _when_, first-of}
 use Rattle.refusals.specs.Tests.{outside, any-from}
 use Rattle.refusals.specs.Left.{left}
 use Rattle.buffers.specs.Written.{in-front}
-use Rattle.selection.specs.declared.Selection.{Selection}
+use Rattle.halves.specs.declared.Selection.{Selection}
 use Rattle.selection.specs.declared.Selected.{Selected}
-use Rattle.selection.specs.Halves.{share, log-of}
+use Rattle.halves.specs.Halves.{share}
+use Rattle.selection.specs.Log.{log-of}
 
 -- a call's numbers
 abbrev pub selection-from : (width z0 z1 z2 c0 c1 c2 t1 t2 b : ℕ) → Selection

@@ -3,7 +3,7 @@ ghost use mathlib.Core.Path.{_≡_};
 ghost use Prim.Native.Nat.{_≤_};
 ghost use Rattle.refusals.specs.Checks.{first-of};
 ghost use Rattle.selection.specs.Select.{word-checks, bit-checks, mask-checks, plain-select-refusal, select-refusal};
-use crate::Selection;
+use halves::Selection;
 
 // 20, 21 and 14
 pub fn refused_logged(selection: Selection, log: &[u32]) -> u32

@@ -4,24 +4,9 @@ ghost use mathlib.Core.Path.{_≡_};
 ghost use Rattle.selection.specs.Select.{selection-from, select-reply, select-log, plain-select-refusal, plain-select-share};
 
 mod checks;
-mod halves;
 mod logged;
-mod registers;
 
-// The word's width in bits is twice this width. z0 joined with the masks z1 and z2 is the word, c0 joined with c1 and c2 the bit; t1, t2 and b
-// are masks that the choice itself uses.
-pub struct Selection {
-    pub width: u32,
-    pub z0: u32,
-    pub z1: u32,
-    pub z2: u32,
-    pub c0: u32,
-    pub c1: u32,
-    pub c2: u32,
-    pub t1: u32,
-    pub t2: u32,
-    pub b: u32,
-}
+use halves::Selection;
 
 // What the call hands back: its refusal, the three shares of the half, and the count of log entries.
 pub struct Selected {
@@ -111,6 +96,6 @@ pub fn plain_select(
     if refusal != 0 {
         return refusal;
     }
-    registers::run(selection, share0, share1, share2);
+    halves::run(selection, share0, share1, share2);
     0
 }

@@ -6,13 +6,12 @@ ghost use Prim.Native.Nat.{_+_, _≤_, _<_};
 ghost use lib.ListN.{length};
 ghost use Rattle.buffers.specs.Written.{written, in-front};
 ghost use Rattle.log_entries.specs.Entries.{entries};
-ghost use Rattle.selection.specs.Bounded.{Bounded};
-ghost use Rattle.selection.specs.Halves.{share, bit-values, half-values, input-entries, half-entries, share-entries, log-of};
+ghost use Rattle.halves.specs.Bounded.{Bounded};
+ghost use Rattle.halves.specs.Halves.{share};
+ghost use Rattle.selection.specs.Log.{bit-values, half-values, input-entries, half-entries, share-entries, log-of};
 ghost use Rattle.selection.specs.Select.{selected};
 use crate::Selected;
-use crate::Selection;
-use crate::halves;
-use crate::registers;
+use halves::Selection;
 
 // The kinds in the order of the log, behind those of the three words. docs/REFERENCE.md says what each shows.
 const BITS: [u8; 8] = [11, 4, 5, 6, 7, 8, 9, 10];
@@ -134,7 +133,7 @@ fn put_shares(selection: Selection, log: &mut [u32]) -> Selected
     let mut first = 0u8;
     let mut second = 0u8;
     let mut third = 0u8;
-    registers::run(selection, &mut first, &mut second, &mut third);
+    halves::run(selection, &mut first, &mut second, &mut third);
     log_entries::put(log, 25, &END, &[first, second, third]);
     Selected {
         refusal: 0,

@@ -15,7 +15,7 @@ use Rattle.counting.proofs.Over.{over-ext}
 use Rattle.table.specs.Balanced.{at}
 use Rattle.buffers.proofs.Written.{in-front-at}
 use Rattle.secrecy.specs.Count.{value-at, shows}
-use Rattle.selection.specs.Halves.{log-of}
+use Rattle.selection.specs.Log.{log-of}
 use Rattle.selection.specs.Select.{plain-select-refusal, select-log}
 use Rattle.selection.proofs.Accepted.{bounded-by, not-refused}
 use Rattle.selection.proofs.Checking.{at-14, at-none}

@@ -18,8 +18,9 @@ use Rattle.lookup.proofs.Entry.{value-zero}
 use Rattle.lookup.proofs.Layouts.{at-map}
 use Rattle.secrecy.specs.Count.{value-at, shows}
 use Rattle.secrecy.proofs.Observed.{observer}
-use Rattle.selection.specs.declared.Selection.{Selection}
-use Rattle.selection.specs.Halves.{half, log-of}
+use Rattle.halves.specs.declared.Selection.{Selection}
+use Rattle.halves.specs.Halves.{half}
+use Rattle.selection.specs.Log.{log-of}
 use Rattle.selection.specs.Promises.{table-3}
 use Rattle.selection.proofs.Rows.{all-values, values-in-table, log-shown}
 use Rattle.selection_secrecy.specs.Count.{selection-widths, chosen-selection, selection-count}

@@ -7,8 +7,9 @@ use Rattle.table.specs.Balanced.{at}
 use Rattle.lookup.specs.Entry.{entry, value-of}
 use Rattle.log_entries.specs.Entries.{entries}
 use Rattle.secrecy.specs.Count.{value-at, shows}
-use Rattle.selection.specs.Halves.{half, c3, masked, registers, share, bit-values, half-values}
-use Rattle.selection.specs.Halves.{input-entries, half-entries, share-entries, log-of}
+use Rattle.halves.specs.Halves.{half, c3, masked, registers, share}
+use Rattle.selection.specs.Log.{bit-values, half-values}
+use Rattle.selection.specs.Log.{input-entries, half-entries, share-entries, log-of}
 use Rattle.selection_secrecy.specs.Count.{selection-widths, chosen-selection, selection-count}
 use Rattle.selection_secrecy.specs.Promises.{Pair-counted}
 

@@ -5,8 +5,8 @@ use Prim.Native.Nat.{ℕ, _*_}
 use Rattle.bits.specs.Xor.{_⊕_}
 use Rattle.counting.specs.Choice.{over}
 use Rattle.secrecy.specs.Count.{shows}
-use Rattle.selection.specs.declared.Selection.{Selection}
-use Rattle.selection.specs.Halves.{log-of}
+use Rattle.halves.specs.declared.Selection.{Selection}
+use Rattle.selection.specs.Log.{log-of}
 use Rattle.selection.specs.Select.{select-log}
 
 -- a choice fixes z1, z2, c1, c2, t1, t2 and b, in this order

@@ -7,8 +7,8 @@ use lib.ListN.{length}
 use Rattle.bits.specs.Xor.{_⊕_}
 use Rattle.counting.specs.Choice.{over, Within}
 use Rattle.table.specs.Balanced.{at}
-use Rattle.selection.specs.declared.Selection.{Selection}
-use Rattle.selection.specs.Halves.{log-of}
+use Rattle.halves.specs.declared.Selection.{Selection}
+use Rattle.selection.specs.Log.{log-of}
 use Rattle.selection.specs.Select.{select-refusal, select-log}
 use Rattle.selection_secrecy.specs.Count.{selection-widths, chosen-selection, selection-count, select-count}
 

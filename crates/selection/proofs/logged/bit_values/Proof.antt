@@ -1,6 +1,6 @@
 -- `selection::logged::bit_values` meets its contract.
 use borrow.Author.Needs.{needs}
-use Rattle.selection.proofs.Bounds.{half-byte, bits-byte, place-byte}
+use Rattle.halves.proofs.Bounds.{half-byte, bits-byte, place-byte}
 use Rattle.selection.proofs.Logging.{bits-of}
 use Rattle.selection.proofs.logged.bit_values.Statement.{statement}
 use Rattle.selection.proofs.logged.bit_values.Tie as tie

@@ -1,6 +1,6 @@
 -- `selection::logged::half_values` meets its contract.
 use borrow.Author.Needs.{needs}
-use Rattle.selection.proofs.Bounds.{half-byte}
+use Rattle.halves.proofs.Bounds.{half-byte}
 use Rattle.selection.proofs.Logging.{values-of}
 use Rattle.selection.proofs.logged.half_values.Statement.{statement}
 use Rattle.selection.proofs.logged.half_values.Tie as tie

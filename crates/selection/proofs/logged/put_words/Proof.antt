@@ -1,6 +1,6 @@
 -- `selection::logged::put_words` meets its contract.
 use borrow.Author.Needs.{needs}
-use Rattle.selection.proofs.Bounds.{word-fits}
+use Rattle.halves.proofs.Bounds.{word-fits}
 use Rattle.selection.proofs.Logging.{three-written, second-place, third-place}
 use Rattle.selection.proofs.logged.put_words.Statement.{statement}
 use Rattle.selection.proofs.logged.put_words.Tie as tie

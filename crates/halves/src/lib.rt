@@ -1,10 +1,28 @@
-// The half of a word that a bit chooses, and the place that the bit's shares give it in the registers. The checks have been made, so both
-// functions have a `requires`.
+// One half of a word chosen by a bit, both in three shares: the half, the place that the bit's shares give it in the registers, and the run.
+// The checks have been made, so every function has a `requires`.
 ghost use mathlib.Core.Path.{_≡_};
 ghost use Prim.Native.Nat.{_*_, _^_, _≤_, _<_};
-ghost use Rattle.selection.specs.Bounded.{Bounded};
-ghost use Rattle.selection.specs.Halves.{half as Halves·half, c3};
-use crate::Selection;
+ghost use Rattle.halves.specs.Bounded.{Bounded};
+ghost use Rattle.halves.specs.Halves.{half as Halves·half, c3};
+
+mod registers;
+
+pub use registers::run;
+
+// The word's width in bits is twice this width. z0 joined with the masks z1 and z2 is the word, c0 joined with c1 and c2 the bit; t1, t2 and b
+// are masks that the choice itself uses.
+pub struct Selection {
+    pub width: u32,
+    pub z0: u32,
+    pub z1: u32,
+    pub z2: u32,
+    pub c0: u32,
+    pub c1: u32,
+    pub c2: u32,
+    pub t1: u32,
+    pub t2: u32,
+    pub b: u32,
+}
 
 // By a shift that the bit chooses: a test of the bit may become a jump. It is never by 0, which leaves the flags of what was done before.
 pub fn half(width: u32, bit: u32, word: u32) -> u8

@@ -5,10 +5,9 @@ ghost use mathlib.Core.Path.{_≡_};
 ghost use mathlib.Core.List.{[], _∷_};
 ghost use Prim.Native.Nat.{_<_};
 ghost use lib.ListN.{set};
-ghost use Rattle.selection.specs.Bounded.{Bounded};
-ghost use Rattle.selection.specs.Halves.{masked, registers, share};
+ghost use Rattle.halves.specs.Bounded.{Bounded};
+ghost use Rattle.halves.specs.Halves.{masked, registers, share};
 use crate::Selection;
-use crate::halves;
 
 // A run without a log.
 pub fn run(selection: Selection, share0: &mut u8, share1: &mut u8, share2: &mut u8)
@@ -28,7 +27,7 @@ pub fn run(selection: Selection, share0: &mut u8, share1: &mut u8, share2: &mut 
 }
 
 // Steps 4 to 9.
-pub fn fill(selection: Selection, a: &mut [u8; 2], b: &mut [u8; 2], c: &mut [u8; 2])
+fn fill(selection: Selection, a: &mut [u8; 2], b: &mut [u8; 2], c: &mut [u8; 2])
     requires { ⌜ Bounded selection ⌝ }
     requires { ⌜ now a ≡ 0 ∷ 0 ∷ [] ⌝ }
     requires { ⌜ now b ≡ 0 ∷ 0 ∷ [] ⌝ }
@@ -37,7 +36,7 @@ pub fn fill(selection: Selection, a: &mut [u8; 2], b: &mut [u8; 2], c: &mut [u8;
     ensures { λ _. ⌜ now (b .exit) ≡ registers 1 selection ⌝ }
     ensures { λ _. ⌜ now (c .exit) ≡ registers 2 selection ⌝ }
 {
-    let place = halves::place(selection);
+    let place = crate::place(selection);
     store(selection, selection.c0, place, a, b, c);
     store(selection, 1 - selection.c0, 1 - place, a, b, c);
 }
@@ -59,8 +58,8 @@ fn store(
     ensures { λ _. ⌜ now (b .exit) ≡ set (now (b .entry)) place (masked 1 selection bit) ⌝ }
     ensures { λ _. ⌜ now (c .exit) ≡ set (now (c .entry)) place (masked 2 selection bit) ⌝ }
 {
-    a[place] = halves::half(selection.width, bit, selection.z0) ^ selection.t1 as u8;
-    b[place] = halves::half(selection.width, bit, selection.z1) ^ selection.t2 as u8;
-    let once = halves::half(selection.width, bit, selection.z2) ^ selection.t1 as u8;
+    a[place] = crate::half(selection.width, bit, selection.z0) ^ selection.t1 as u8;
+    b[place] = crate::half(selection.width, bit, selection.z1) ^ selection.t2 as u8;
+    let once = crate::half(selection.width, bit, selection.z2) ^ selection.t1 as u8;
     c[place] = lookup::value_barrier(once, selection.t2) ^ selection.t2 as u8;
 }

@@ -1,6 +1,6 @@
 -- What the checks leave of a selection's numbers: the bounds that its runs need.
 use Prim.Native.Nat.{_*_, _^_, _≤_, _<_}
-use Rattle.selection.specs.declared.Selection.{Selection}
+use Rattle.halves.specs.declared.Selection.{Selection}
 
 pub record Bounded (s : Selection) : Type 0 where
   pub width-most : s .width ≤ 8

@@ -1,8 +1,8 @@
--- `selection::registers::run` meets its contract.
+-- `halves::registers::run` meets its contract.
 use borrow.Author.Needs.{needs}
-use Rattle.selection.proofs.Storing.{read-share}
-use Rattle.selection.proofs.registers.run.Statement.{statement}
-use Rattle.selection.proofs.registers.run.Tie as tie
+use Rattle.halves.proofs.Storing.{read-share}
+use Rattle.halves.proofs.registers.run.Statement.{statement}
+use Rattle.halves.proofs.registers.run.Tie as tie
 
 pub run-spec : {M : Type 1} → statement M
 run-spec =

@@ -7,7 +7,7 @@ use mir.Syntax.{w8, w32}
 use mir.Val.{Fits}
 use lib.Bits.{bitAnd, and-mask, mask-lt}
 use lib.Pow.{pow-pos, pow-mono, shr-mod, shr-shr}
-use Rattle.selection.specs.Halves.{half}
+use Rattle.halves.specs.Halves.{half}
 
 pub power-least : (r width : ℕ) → r ≡ 2 ^ width → 1 ≤ r
 power-least r width e = rw e (pow-pos width)

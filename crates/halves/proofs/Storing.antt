@@ -6,8 +6,8 @@ use lib.Bits.{bitXor}
 use lib.ListN.{getD, set}
 use Rattle.bits.specs.Xor.{_⊕_}
 use Rattle.table.specs.Balanced.{at}
-use Rattle.selection.specs.declared.Selection.{Selection}
-use Rattle.selection.specs.Halves.{half, c3, masked, registers, share}
+use Rattle.halves.specs.declared.Selection.{Selection}
+use Rattle.halves.specs.Halves.{half, c3, masked, registers, share}
 
 module _ (s : Selection) (bit : ℕ) (pair : List ℕ) (place r : ℕ) where
   pub stored-0 : r ≡ half (s .width) bit (s .z0) → set pair place (bitXor r (s .t1)) ≡ set pair place (masked 0 s bit)

@@ -8,9 +8,9 @@ use mir.Val.{Fits}
 use lib.Bits.{bitXor}
 use Rattle.bits.specs.Xor.{_⊕_}
 use Rattle.bits.proofs.Xor.{below}
-use Rattle.selection.specs.declared.Selection.{Selection}
-use Rattle.selection.specs.Bounded.{Bounded}
-use Rattle.selection.specs.Halves.{c3}
+use Rattle.halves.specs.declared.Selection.{Selection}
+use Rattle.halves.specs.Bounded.{Bounded}
+use Rattle.halves.specs.Halves.{c3}
 
 -- sums of bits
 pub bits-below : {v u : ℕ} → v < 2 → u < 2 → bitXor v u < 2

@@ -1,9 +1,9 @@
--- `selection::registers::store` meets its contract.
+-- `halves::registers::store` meets its contract.
 use borrow.Author.Needs.{needs}
-use Rattle.selection.proofs.Bounds.{half-byte}
-use Rattle.selection.proofs.Storing.{stored-0, stored-1, stored-2}
-use Rattle.selection.proofs.registers.store.Statement.{statement}
-use Rattle.selection.proofs.registers.store.Tie as tie
+use Rattle.halves.proofs.Bounds.{half-byte}
+use Rattle.halves.proofs.Storing.{stored-0, stored-1, stored-2}
+use Rattle.halves.proofs.registers.store.Statement.{statement}
+use Rattle.halves.proofs.registers.store.Tie as tie
 
 pub store-spec : {M : Type 1} → statement M
 store-spec =

@@ -12,10 +12,10 @@ use lib.Pow.{pow-pos, shr-lt}
 use Rattle.bits.specs.Xor.{_⊕_}
 use Rattle.bits.proofs.Xor.{xors, high-bits, low-bits, below, different-bits, other-bit}
 use Rattle.table.specs.Balanced.{at}
-use Rattle.selection.specs.declared.Selection.{Selection}
-use Rattle.selection.specs.Bounded.{Bounded}
-use Rattle.selection.specs.Halves.{half, c3, masked, registers, share}
-use Rattle.selection.proofs.Bounds.{c3-below}
+use Rattle.halves.specs.declared.Selection.{Selection}
+use Rattle.halves.specs.Bounded.{Bounded}
+use Rattle.halves.specs.Halves.{half, c3, masked, registers, share}
+use Rattle.halves.proofs.Bounds.{c3-below}
 
 -- a half has half the word's width, and the half of a sum is the sum of the halves
 pub half-below : (width bit word : ℕ) → word < 2 ^ (2 * width) → half width bit word < 2 ^ width

@@ -1,9 +1,9 @@
--- `selection::registers::fill` meets its contract.
+-- `halves::registers::fill` meets its contract.
 use borrow.Author.Needs.{needs}
-use Rattle.selection.proofs.Bounds.{place-below, place-most}
-use Rattle.selection.proofs.Storing.{filled}
-use Rattle.selection.proofs.registers.fill.Statement.{statement}
-use Rattle.selection.proofs.registers.fill.Tie as tie
+use Rattle.halves.proofs.Bounds.{place-below, place-most}
+use Rattle.halves.proofs.Storing.{filled}
+use Rattle.halves.proofs.registers.fill.Statement.{statement}
+use Rattle.halves.proofs.registers.fill.Tie as tie
 
 pub fill-spec : {M : Type 1} → statement M
 fill-spec =

@@ -1,8 +1,8 @@
--- `selection::halves::half` meets its contract.
+-- `halves::half` meets its contract.
 use borrow.Author.Needs.{needs}
-use Rattle.selection.proofs.Halving.{power-least, doubled-fits, product-fits, shift-fits, shift-below, low-fits, half-shifted}
-use Rattle.selection.proofs.halves.half.Statement.{statement}
-use Rattle.selection.proofs.halves.half.Tie as tie
+use Rattle.halves.proofs.Halving.{power-least, doubled-fits, product-fits, shift-fits, shift-below, low-fits, half-shifted}
+use Rattle.halves.proofs.half.Statement.{statement}
+use Rattle.halves.proofs.half.Tie as tie
 
 pub half-spec : {M : Type 1} → statement M
 half-spec =
