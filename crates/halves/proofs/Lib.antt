@@ -2,4 +2,4 @@
 pub mod Bounds
 pub mod Halving
 pub mod Storing
-pub mod Choosing
+pub mod Shares

@@ -67,17 +67,23 @@ leaking =
     leak (small 0) 2 0 1 (secret 1) (mask 4)
     ∷ leak (small 0) 2 0 1 (lookup 1 (secret 1)) (mask 4)
     ∷ leak (small 0) 2 0 1 (differ (secret 1) (number 1 0)) (mask 4)
+    ∷ leak (small 0) 2 0 1 (differ (number 1 0) (secret 1)) (mask 4)
     ∷ leak (small 0) 2 0 1 (mask 4 ⊞ secret 1) (mask 4)
     -- a chosen half beside its word, beside the high half, and beside the low one chosen by a number above 1
     ∷ leak (small 0) 2 0 1 chosen (mask 0 ⊞ number 0 1)
+    ∷ leak (small 0) 2 0 1 chosen (number 0 1 ⊞ mask 0)
     ∷ leak (small 0) 2 0 1 chosen (highest (mask 0))
     ∷ leak large 2 0 1 chosen (half 2 (secret 1 ⊞ number 2 2) (mask 0))
-    -- chosen by a half of the same word, or by a comparison of it
+    -- chosen by a half of the same word, by a comparison of it, or of the bit
     ∷ leak (small 0) 1 0 1 (half 1 (secret 1 ⊞ half 1 (number 1 0) (mask 0)) (mask 0)) (mask 4)
     ∷ leak (small 0) 2 0 1 (half 2 (secret 1 ⊞ differ (mask 0) (number 0 1)) (mask 0)) (mask 4)
+    ∷ leak (small 0) 2 0 1 (half 2 (secret 1 ⊞ differ (number 0 1) (mask 0)) (mask 0)) (mask 4)
+    ∷ leak (small 0) 2 0 1 (half 2 (differ (mask 0) (number 0 1) ⊞ secret 1) (mask 0)) (mask 4)
+    ∷ leak (small 0) 2 0 1 (half 2 (secret 1 ⊞ differ (secret 1) (number 1 0)) (mask 0)) chosen
     -- of a word that is public or in part, an entry, a comparison, itself a half, or of another class; and a half of another width
     ∷ leak (small 0) 2 0 1 (half 2 (secret 1) (number 0 1)) (mask 4)
     ∷ leak (small 0) 2 0 1 (half 2 (secret 1) (mask 0 ⊞ number 0 1)) chosen
+    ∷ leak (small 0) 2 0 1 (half 2 (secret 1) (number 0 1 ⊞ mask 0)) chosen
     ∷ leak (small 0) 2 0 1 (half 2 (secret 1) (lookup 0 (mask 0))) (mask 4)
     ∷ leak (small 0) 2 0 1 (half 2 (secret 1) (differ (mask 4) (mask 5))) (mask 2)
     ∷ leak (small 0) 2 0 1 (half 2 (secret 1) (highest (mask 0))) (mask 4)

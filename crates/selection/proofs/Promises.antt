@@ -25,7 +25,7 @@ use Rattle.selection.proofs.Checking.{at-20, at-plain, at-14, at-none}
 use Rattle.selection.proofs.Accepted.{plain-bounded, plain-least, bounded-by, not-refused, large-number, logged-parts}
 use Rattle.selection.proofs.Replies.{refused-zeros}
 use Rattle.selection.proofs.Logging.{log-long}
-use Rattle.halves.proofs.Choosing.{masked-join, masked-below, bounded-share}
+use Rattle.halves.proofs.Shares.{masked-join, masked-below, bounded-share}
 use Rattle.selection.proofs.Rows.{log-read, values-in-table}
 
 pub selection-worked : Selection-worked

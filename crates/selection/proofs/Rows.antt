@@ -18,7 +18,7 @@ use Rattle.selection.specs.Log.{bit-values, half-values}
 use Rattle.selection.specs.Log.{input-entries, half-entries, share-entries, log-of}
 use Rattle.selection.specs.Promises.{table-3}
 use Rattle.halves.proofs.Bounds.{bits-below, c3-below}
-use Rattle.halves.proofs.Choosing.{half-below, masked-below, share-chosen, bounded-share}
+use Rattle.halves.proofs.Shares.{half-below, masked-below, share-chosen, bounded-share}
 
 -- every value has room in its entry
 abbrev Room : List ℕ → Type 0

@@ -39,5 +39,8 @@ Order-worked =
     ∷ refused 28 (selection-from 2 6 12 1 1 0 1 1 2 2)
     -- a log of 27; 20 and 21; 20 and 14; 21 and 14; and without a log 21, and none
     ∷ refused 27 (worked 1) ∷ refused 28 (selection-from 9 6 12 1 2 0 1 1 2 1) ∷ refused 0 (selection-from 0 0 0 0 0 0 0 0 0 0)
-    ∷ refused 0 (worked 2) ∷ plain-select-refusal (worked 2) ∷ plain-select-refusal (worked 1) ∷ []
-    ≡ 0 ∷ 20 ∷ 0 ∷ 0 ∷ 20 ∷ 0 ∷ 21 ∷ 21 ∷ 21 ∷ 21 ∷ 21 ∷ 21 ∷ 21 ∷ 21 ∷ 21 ∷ 14 ∷ 20 ∷ 20 ∷ 21 ∷ 21 ∷ 0 ∷ []
+    ∷ refused 0 (worked 2) ∷ plain-select-refusal (worked 2) ∷ plain-select-refusal (worked 1)
+    -- 20 and 21 by a word, and by a mask; 21 by a word and 14, by a mask and 14
+    ∷ refused 28 (selection-from 0 1 0 0 0 0 0 0 0 0) ∷ refused 28 (selection-from 0 0 0 0 0 0 0 1 0 0)
+    ∷ refused 27 (selection-from 2 16 12 1 1 0 1 1 2 1) ∷ refused 27 (selection-from 2 6 12 1 1 0 1 4 2 1) ∷ []
+    ≡ 0 ∷ 20 ∷ 0 ∷ 0 ∷ 20 ∷ 0 ∷ 21 ∷ 21 ∷ 21 ∷ 21 ∷ 21 ∷ 21 ∷ 21 ∷ 21 ∷ 21 ∷ 14 ∷ 20 ∷ 20 ∷ 21 ∷ 21 ∷ 0 ∷ 20 ∷ 20 ∷ 21 ∷ 21 ∷ []
