@@ -7,6 +7,7 @@ from pathlib import Path
 import chain
 import chain_cases
 import check
+import check_selection
 import counts
 import frame
 import logged_cases
@@ -21,7 +22,7 @@ from edits import edited
 from frame_mutants import FRAME
 from model_mutants import MODEL
 from screening_mutants import SCREENING
-from selection_mutants import SELECTION
+from selection_mutants import ALONE, SELECTION
 
 # For each function, the edits of its text: a piece of it, and what takes its place.
 SBOX = {
@@ -85,6 +86,16 @@ def complaints(module, edits):
                 yield f"{name}: {old!r} became {new!r}, and no case's answer differs"
 
 
+# The groups that do not notice, run alone, an edit that they must.
+def blind_groups():
+    text = dict(definitions(selection, SELECTION))["run"]
+    for group, pieces in ALONE.items():
+        differences = lambda: (name for name, got, wanted in getattr(check_selection, group)() if got != wanted)
+        for old, new in pieces:
+            if not noticed(selection, "run", edited(text, old, new), differences):
+                yield f"check_selection: {group} alone does not see that {old!r} became {new!r}"
+
+
 def main():
     modules = (
         (model, MODEL),
@@ -99,6 +110,7 @@ def main():
     for module, edits in modules:
         found += [f"{module.__name__}: {complaint}" for complaint in complaints(module, edits)]
         print(f"{sum(map(len, edits.values()))} edits of {module.__name__}.py")
+    found += blind_groups()
     for complaint in found:
         print(complaint)
     sys.exit(1 if found else 0)

@@ -230,3 +230,12 @@ SELECTION = {
         ("zip(*values)", "zip(*list(values)[1:])"),
     ],
 }
+
+# Groups of check_selection.py that other groups come before, each with edits of `run` that it must notice by itself: so none can be emptied.
+ALONE = {
+    "every_answer": [("first ^ t1", "first")],
+    "hard_pair": [("(27, A[b])", "(27, A[c3])")],
+    "leaks": [("first ^ t1", "first")],
+    "harmless": [("(9, mixed)", "(9, c1 ^ c2)")],
+    "counts": [("(9, mixed)", "(9, mixed if width > 1 else c1 ^ c2)"), ("(9, mixed)", "(9, mixed if width == 1 else c1 ^ c2)")],
+}
