@@ -29,7 +29,7 @@ abbrev pub Even-for : (size : ℕ) → (entry : ℕ → ℕ) → (difference : �
 Even-for size entry d = (observer : ℕ → ℕ) → sum size (λ z. observer (entry z ⊕ d)) ≡ sum size (λ z. observer (entry z))
 
 -- What is assumed of the values. The secrets are of their classes; a comparison's result, 0 or 1, fits its class; a word is twice as wide as
--- its halves, and a bit has one; a table's entries are of their class, and it is even for the two values of the secret that is one of its
+-- its halves, and a bit is one bit wide; a table's entries are of their class, and it is even for the two values of the secret that is one of its
 -- entries. Nothing is assumed of how the secrets hang together.
 pub record Known (system : System) (setting : Setting) (hs ts : ℕ → ℕ) : Type 0 where
   pub before : Valid setting (system .secrets) hs

@@ -165,7 +165,7 @@ exchangeable system j class e f =
     let words-back = each-place (system .secrets) (λ k c. not (is-word system (system .secrets) k) || shiftable system k c false e f) in
     eqb class (system .bit) && kept-by-exchange system j e && kept-by-exchange system j f && words-back
 
--- whether a change of one secret is unseen: by a shift, by one of the two rules for a mask with e and f either way round, or by halves
+-- whether a change of one secret is unseen: by a shift, by one of the two rules for a mask with e and f either way round, or by the exchange
 unfoldable pub unseen : System → (place class : ℕ) → Expression → Expression → Bool
 unfolding masked exchangeable
 unseen system j class e f =

@@ -1,4 +1,4 @@
--- One half of a word chosen by a bit, both in three shares: what is chosen, the refusals, what is handed back and left, and what is promised.
+-- The calls that choose one half of a word by a bit: the log, the refusals, what is handed back and left, and what is promised.
 pub mod Log
 pub mod Select
 pub mod Order

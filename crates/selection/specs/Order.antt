@@ -1,5 +1,5 @@
--- The order of a selection's refusals in cases that compute: the worked selection, whose word is 11 and whose bit is 0, faults one by one at
--- their limits, and selections with several. On each line stands the number that is handed back.
+-- Cases that compute: a selection worked by hand, whose word is 11 and whose bit is 0, and the order of the refusals: faults of it one by one at
+-- their limits, and selections with several. Last stand the numbers that are handed back.
 use mathlib.Core.Path.{_≡_}
 use mathlib.Core.List.{List, [], _∷_}
 use Prim.Native.Nat.{ℕ}

@@ -123,7 +123,7 @@ fn half_values(selection: Selection, bit: u32) -> [u8; 7]
     ]
 }
 
-// The shares of the half, read from the registers, and what the call hands back.
+// The shares of the half, by the run without a log, and what the call hands back.
 fn put_shares(selection: Selection, log: &mut [u32]) -> Selected
     requires { ⌜ Bounded selection ⌝ }
     requires { ⌜ 28 ≤ length (now log) ⌝ }

@@ -1,5 +1,5 @@
 -- Two entries of a selection's log tell nothing of its word and its bit: of the log as it is defined, and of what the call leaves. Each
--- statement is a type; the proofs stand in proofs/Promises.antt.
+-- statement is a type; the proofs stand in proofs/Promises.antt, Lent.antt and Worked.antt.
 use mathlib.Core.Path.{_≡_}
 use mathlib.Core.List.{List, [], _∷_}
 use Prim.Native.Nat.{ℕ, _+_, _*_, _^_, _≤_, _<_}
