@@ -25,7 +25,7 @@ static void print_block(const char *name, const uint8_t block[16]) {
 }
 
 int main(void) {
-    uint8_t key1[16], key2[16], key3[16], random[CIPPAZHEY_RANDOM_LENGTH], scratch[CIPPAZHEY_SCRATCH_LENGTH];
+    uint8_t key1[16], key2[16], key3[16], random[CIPPAZHEY_RANDOM_LENGTH], scratch[CIPPAZHEY_FRAME_SCRATCH_LENGTH];
     uint8_t share1[16], share2[16], share3[16], ciphertext[16];
     if (!draw(key2, 16) || !draw(key3, 16) || !draw(random, sizeof random)) return 1;
     for (int place = 0; place < 16; place++) key1[place] = key[place] ^ key2[place] ^ key3[place];

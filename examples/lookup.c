@@ -3,6 +3,8 @@
 #include <cippazhey.h>
 #include <stdio.h>
 
+static const uint32_t methods[3] = {2, 3, 5};
+
 // The S-box of PRESENT: four bits in, four bits out.
 static const uint8_t table[16] = {12, 5, 6, 11, 9, 0, 10, 13, 3, 14, 15, 8, 4, 7, 1, 2};
 
@@ -12,10 +14,10 @@ int main(void) {
     if (!noise) return 1;
     cippazhey_clear(scratch, sizeof scratch);
     for (uint32_t secret = 0; secret < 16; secret += 5) {
-        for (uint32_t method = 2; method <= 3; method++) {
+        for (int each = 0; each < 3; each++) {
             if (fread(random, 1, sizeof random, noise) != sizeof random) return 1;
-            uint32_t r1 = random[0] % 16, r2 = random[1] % 16, r3 = random[2] % 16, s1 = random[3] % 16, s2 = random[4] % 16;
-            uint32_t b = method == 3 ? random[5] % 2 : 0;
+            uint32_t method = methods[each], r1 = random[0] % 16, r2 = random[1] % 16, s1 = random[2] % 16, s2 = random[3] % 16;
+            uint32_t r3 = method == 5 ? 0 : random[4] % 16, b = method == 3 ? random[5] % 2 : 0; // a method's own masks
             uint16_t result = cippazhey_plain_call(method, 4, 4, secret ^ r1 ^ r2, r1, r2, s1, s2, r3, b, table, 16, scratch, sizeof scratch);
             cippazhey_clear(scratch, sizeof scratch);
             if (cippazhey_refusal_of(result) != CIPPAZHEY_ACCEPTED) return 1;

@@ -2,7 +2,7 @@
 // half of a word by a bit on three shares of both, the numbers of their refusals, what their caller owes, the screening of
 // random bytes, and the call that clears a buffer.
 // Link libcippazhey.a, which `make lib` writes to target/staticlib/. It needs memset and memcpy at most.
-// docs/REFERENCE.md has the numbers in each call's order of checking, both methods step by step, and the masks.
+// docs/REFERENCE.md has the numbers in each call's order of checking, the methods step by step, and the masks.
 #ifndef CIPPAZHEY_H
 #define CIPPAZHEY_H
 
@@ -15,13 +15,13 @@ extern "C" {
 
 // A changed call or refusal raises the minor number.
 #define CIPPAZHEY_VERSION_MAJOR 0
-#define CIPPAZHEY_VERSION_MINOR 3
+#define CIPPAZHEY_VERSION_MINOR 4
 #define CIPPAZHEY_VERSION_PATCH 0
 
 // Why a call is refused. The order of this list is the order of checking, and the first that applies is returned.
 enum cippazhey_refusal {
     CIPPAZHEY_ACCEPTED = 0,
-    CIPPAZHEY_REFUSED_METHOD = 2,          // the method is neither 2 nor 3
+    CIPPAZHEY_REFUSED_METHOD = 2,          // the method is none of 2, 3 and 5
     CIPPAZHEY_REFUSED_INPUT_WIDTH = 3,     // n is below 1 or above 8
     CIPPAZHEY_REFUSED_OUTPUT_WIDTH = 4,    // m is below 1 or above 8
     CIPPAZHEY_REFUSED_TABLE_LENGTH = 5,    // the table does not have exactly 2^n entries
@@ -31,15 +31,17 @@ enum cippazhey_refusal {
     CIPPAZHEY_REFUSED_SELECT_INPUT = 21,   // a share or a mask of a selection is too large for its width
     CIPPAZHEY_REFUSED_INPUT_SHARE = 10,    // x0, r1, r2 or r3 is 2^n or more
     CIPPAZHEY_REFUSED_OUTPUT_MASK = 11,    // s1 or s2 is 2^m or more
-    CIPPAZHEY_REFUSED_BIT = 12,            // b is above 0 under method 2, or above 1 under method 3
+    CIPPAZHEY_REFUSED_OWN_MASK = 12,       // b is above 0, under method 3 above 1; or r3 is above 0 under method 5
     CIPPAZHEY_REFUSED_RANDOM_LENGTH = 26,  // a frame is not lent exactly 632 random bytes
     CIPPAZHEY_REFUSED_FAULTY_RANDOM = 27,  // a value stands more than 20 times in 512 consecutive ones of these bytes
-    CIPPAZHEY_REFUSED_SCRATCH_LENGTH = 13, // scratch has fewer than 2^n bytes, for a frame fewer than 256
-    CIPPAZHEY_REFUSED_DIRTY_SCRATCH = 19   // one of the first 2^n bytes of scratch is not zero; a frame clears them itself
+    CIPPAZHEY_REFUSED_SCRATCH_LENGTH = 13, // scratch has fewer than 2^n bytes, under method 5 than 2^(n+1); for a frame than 256
+    CIPPAZHEY_REFUSED_DIRTY_SCRATCH = 19   // one of so many first bytes of scratch is not zero; a frame clears them itself
 };
 
-// A lookup needs 2^n bytes of scratch. This many suffice for every width, and for a frame.
-#define CIPPAZHEY_SCRATCH_LENGTH 256
+// A lookup needs 2^n bytes of scratch, under method 5 2^(n+1). The first number suffices for every method and width, and for a
+// frame; the second for a frame, and for methods 2 and 3 at every width.
+#define CIPPAZHEY_SCRATCH_LENGTH 512
+#define CIPPAZHEY_FRAME_SCRATCH_LENGTH 256
 
 // A frame takes this many random bytes.
 #define CIPPAZHEY_RANDOM_LENGTH 632
@@ -50,28 +52,40 @@ enum cippazhey_refusal {
 // Looks up the secret x = x0 ^ r1 ^ r2 in a table of 2^n entries of m bits, without ever forming x.
 // Accepted, it returns the share table[x] ^ s1 ^ s2; s1 and s2 are the other two shares of table[x].
 //
-//   method       2 looks up in a masked copy of the table, 3 compares; both return the same share
+//   method       2 looks up in a masked copy of the table; 3 compares; 5, Schramm and Paar's, looks up in the second of two
+//                masked copies in a row, which is made of the first. All return the same share.
 //   n, m         the table's input and output widths in bits, each from 1 to 8
 //   x0, r1, r2   the three shares of the secret: x ^ r1 ^ r2 and the two masks
 //   s1, s2       the masks of the output
-//   r3           a mask of width n that the lookup itself uses
-//   b            under method 3 a random bit, under method 2 always 0
+//   r3           under methods 2 and 3 a mask of width n that the lookup itself uses, under method 5 always 0
+//   b            under method 3 a random bit, under the others always 0
 //   table        one byte an entry; only read. It must be fit: all values that occur in it do so equally often, and the
 //                exclusive or of any three of them, repeats allowed, occurs as well. A balanced table, which has every value
 //                below 2^m equally often, is fit; so is a permutation, with m = n.
-//   scratch      its first 2^n bytes must be zero; what stands behind them is not looked at, and stays. Accepted, those
-//                2^n bytes become method 2's masked table or method 3's comparison bytes. Refused, all of it stays.
+//   scratch      its first 2^n bytes, under method 5 2^(n+1), must be zero; what stands behind them is not looked at, and
+//                stays. Accepted, they become method 2's masked table, method 3's comparison bytes, or method 5's two
+//                masked copies, a half each. Refused, all of it stays.
+//
+// Which method: 2, as a frame does. It takes the fewest instructions (docs/PERFORMANCE.md has them). 3 leaves the least in
+// scratch. 5 draws no mask of its own, so n bits fewer than 2, for twice the scratch and a second pass; it leaves the most.
 //
 // What the caller owes:
 //   - table and scratch point to as many bytes as their lengths say. NULL is allowed only with length 0.
 //   - table and scratch do not overlap, and nothing else touches them while the call runs.
-//   - r1, r2, r3, s1, s2, and b under method 3 are uniform, independent, and new for each call. No call can check that.
+//   - r1, r2, s1, s2, r3 where it is not always 0, and b under method 3 are uniform, independent, and new for each call. No
+//     call can check that.
 //   - scratch is cleared with cippazhey_clear, best the whole of it: before the first call, and after each as soon as it has
-//     returned, its 2^n bytes at least. What method 2 leaves beside the returned share is a share too many: byte r3 is that
-//     share, the others are the table's other entries under the same masks. Together they can tell s1 ^ s2 (for the S-box of
-//     AES they do), and that with the returned share gives table[x]. Method 3 leaves r3 and b.
-//     A call that finds a nonzero byte among its own first 2^n is refused, and leaves it there. That is no guard: a narrower
-//     call may find zeros in what a wider one left, any call in what method 2 left of a constant table, and takes them.
+//     returned, all bytes that the method needs at least. What the methods leave there:
+//     Method 2: byte r3 is the returned share, the others are the table's other entries under the same masks. Together they
+//     can tell s1 ^ s2 (for the S-box of AES they do), and that with the returned share gives table[x].
+//     Method 3: r3 and b.
+//     Method 5: byte a of the first half is table[a ^ r1] ^ s1, byte a of the second table[a ^ r1 ^ r2] ^ s1 ^ s2, byte x0
+//     of it the returned share. The first half can tell r1 and s1, with the second r2 and s2 too (for the S-box of AES they
+//     do): two of the three shares of x and of table[x], so x0 gives x, and the returned share table[x]. To clear one half
+//     is not enough: the second alone still tells r1 ^ r2 and s1 ^ s2.
+//     A call that finds a nonzero byte among those that it needs is refused, and leaves it there. That is no guard, for it
+//     takes zeros from whatever left them: a narrower call may find some in what a wider one left, methods 2 and 3 do not
+//     look at method 5's second half, and methods 2 and 5 may leave zeros of a constant table.
 //
 // What is proved of the source:
 //   - Every call returns, and reads and writes only the bytes it is lent.

@@ -19,47 +19,67 @@
 
 enum { LONGEST = 256, RANDOM_INPUTS = 4, RANDOM_CHOICES = 24 };
 
-static uint8_t table[LONGEST], scratch[LONGEST];
+static uint8_t table[LONGEST], scratch[2 * LONGEST];
 static uint32_t entries[2400];
 static const struct subject *subject;
 
-// The numbers of the call that is made next: its method and widths, the secret, and all masks. x0 follows from them.
+// What differs from method to method: its number, whether it draws r3, how many bits b has, the bytes of scratch for an entry of the table,
+// and the entries of a log besides the turns' and for each entry of the table.
+static const struct method {
+    uint32_t number;
+    bool draws_r3;
+    uint32_t bits_of_b;
+    size_t scratch, outside, turns;
+} methods[] = {{2, true, 0, 1, 10, 6}, {3, true, 1, 1, 10, 9}, {5, false, 0, 2, 7, 8}};
+static const struct method *method;
+
+// The numbers of the call that is made next: its widths, the secret, and all masks. x0 follows from them.
 static struct widths {
-    uint32_t method, n, m;
+    uint32_t n, m;
 } w;
 static uint32_t x;
 static struct choice {
     uint32_t r1, r2, r3, s1, s2, b;
 } c;
 
-// The scratch before a call: zeros, or what method 2 leaves of it. What method 3 leaves does not depend on the input.
+// The scratch before a call: zeros, or what method 2 or 5 leaves of it. What method 3 leaves does not depend on the input.
 static void lend_scratch(void) {
+    uint32_t entries = 1u << w.n, both = c.s1 ^ c.s2;
     memset(scratch, 0, sizeof scratch);
-    if (!(subject->flags & (USED | CLEARS))) return;
-    for (uint32_t place = 0; place < 1u << w.n; place++) scratch[place] = (uint8_t)(table[x ^ c.r3 ^ place] ^ c.s1 ^ c.s2);
+    for (uint32_t a = 0; a < entries; a++) {
+        if (subject->flags & LEFT_BY_5)
+            scratch[a] = (uint8_t)(table[a ^ c.r1] ^ c.s1), scratch[entries + a] = (uint8_t)(table[a ^ c.r1 ^ c.r2] ^ both);
+        else if (subject->flags & (USED | CLEARS))
+            scratch[a] = (uint8_t)(table[x ^ c.r3 ^ a] ^ both);
+    }
+}
+
+// Whether there is an r3: the call's own, or that of the call before it.
+static bool has_r3(void) {
+    return method->draws_r3 || (subject->flags & USED && !(subject->flags & LEFT_BY_5));
 }
 
 // The table's entry under both masks, 19 beside no share, or a scratch of zeros.
 static bool right_answer(uint32_t share, uint32_t result, size_t length) {
-    static const uint8_t zeros[LONGEST];
+    static const uint8_t zeros[2 * LONGEST];
     if (subject->flags & CLEARS) return !memcmp(scratch, zeros, length);
     return result == (subject->flags & USED ? 19 * 256 : share);
 }
 
 // Makes one call; NULL, or why it cannot be judged.
 static const char *one_call(runner *run, struct trace *trace) {
-    size_t length = (size_t)1 << w.n, log_length = 10 + (w.method == 2 ? 6 : 9) * length;
+    size_t length = (size_t)1 << w.n, needed = method->scratch * length, log_length = method->outside + method->turns * length;
     struct call call = {subject->code,
-                        {w.method, w.n, w.m, x ^ c.r1 ^ c.r2, c.r1, c.r2, c.s1, c.s2, c.r3, c.b, (uintptr_t)table, length,
-                         (uintptr_t)scratch, length, (uintptr_t)entries, log_length},
-                        {{"table", table, length}, {"scratch", scratch, length}, {"log", entries, sizeof *entries * log_length}}};
-    struct call clearing = {subject->code, {(uintptr_t)scratch, length}, {{"scratch", scratch, length}}};
+                        {method->number, w.n, w.m, x ^ c.r1 ^ c.r2, c.r1, c.r2, c.s1, c.s2, method->draws_r3 ? c.r3 : 0, c.b,
+                         (uintptr_t)table, length, (uintptr_t)scratch, needed, (uintptr_t)entries, log_length},
+                        {{"table", table, length}, {"scratch", scratch, needed}, {"log", entries, sizeof *entries * log_length}}};
+    struct call clearing = {subject->code, {(uintptr_t)scratch, needed}, {{"scratch", scratch, needed}}};
     uint64_t result;
     lend_scratch();
     memset(entries, 0, sizeof entries);
     const char *trouble = run(trace, subject->flags & CLEARS ? &clearing : &call, &result);
     uint32_t answer = (subject->flags & LOGGED ? entries[log_length - 1] : (uint32_t)result) & 65535u;
-    if (!trouble && !right_answer(table[x] ^ c.s1 ^ c.s2, answer, length) && watches(ANSWERS_PART)) trouble = "wrong answer";
+    if (!trouble && !right_answer(table[x] ^ c.s1 ^ c.s2, answer, needed) && watches(ANSWERS_PART)) trouble = "wrong answer";
     return trouble;
 }
 
@@ -68,22 +88,22 @@ static void print_numbers(void) {
 }
 
 static void print_title(const char *name) {
-    printf("%s, method %u, n = %u, m = %u, %s%s\n", subject->name, w.method, w.n, w.m, name,
+    printf("%s, method %u, n = %u, m = %u, %s%s\n", subject->name, method->number, w.n, w.m, name,
            subject->flags & CLEARS ? ", clearing used scratch" : subject->flags & USED ? ", on used scratch" : "");
 }
 
 static void choose_numbered(size_t input, size_t number) {
     x = (uint32_t)input;
-    c.r1 = take_bits(&number, w.n), c.r2 = take_bits(&number, w.n), c.r3 = take_bits(&number, w.n);
-    c.s1 = take_bits(&number, w.m), c.s2 = take_bits(&number, w.m), c.b = take_bits(&number, w.method - 2);
+    c.r1 = take_bits(&number, w.n), c.r2 = take_bits(&number, w.n), c.r3 = take_bits(&number, has_r3() ? w.n : 0);
+    c.s1 = take_bits(&number, w.m), c.s2 = take_bits(&number, w.m), c.b = take_bits(&number, method->bits_of_b);
 }
 
 // Every input with every choice of masks. Where the call is refused, b is handled by itself alone and stays 0, and four inputs are enough: with
-// every r3, each comes to every place of the table.
+// every r3, or r1 and r2, each comes to every place of the table.
 static int exhaustive(const uint8_t *lent_table) {
     size_t entries = (size_t)1 << w.n, inputs = subject->flags & USED && entries > 4 ? 4 : entries;
-    uint32_t bit = subject->flags & USED ? 0 : w.method - 2;
-    size_t each = (size_t)1 << (3 * w.n + 2 * w.m + bit);
+    uint32_t bit = subject->flags & USED ? 0 : method->bits_of_b;
+    size_t each = (size_t)1 << ((has_r3() ? 3 : 2) * w.n + 2 * w.m + bit);
     struct study study = {{8, 32}, inputs, each, choose_numbered, one_call, print_numbers, leaking_pairs, NULL};
     struct trace trace;
     if (subject->flags & LOGGED) study.division = watches(LOG_ENTRIES_PART) ? (struct division){4, 4} : (struct division){2, 2};
@@ -107,7 +127,9 @@ static uint32_t random_byte(void) {
 static void choose_randomly(size_t input, size_t number) {
     static const uint32_t inputs[RANDOM_INPUTS] = {0, 1, 90, 255};
     x = inputs[input];
-    c = (struct choice){random_byte(), random_byte(), random_byte(), random_byte(), random_byte(), random_byte() % (w.method - 1)};
+    c = (struct choice){random_byte(), random_byte(), random_byte(), random_byte(), random_byte(), random_byte()};
+    if (!has_r3()) c.r3 = 0;
+    c.b &= method->bits_of_b;
     (void)number;
 }
 
@@ -193,6 +215,13 @@ static int take_cases(int count, char **words, bool *small, bool *large) {
     return !*small || !*large;
 }
 
+// NULL where there is none
+static const struct method *method_numbered(const char *word) {
+    for (size_t i = 0; i < sizeof methods / sizeof *methods; i++)
+        if (methods[i].number == (uint32_t)atoi(word)) return &methods[i];
+    return NULL;
+}
+
 int main(int count, char **words) {
     bool small, large;
     if (count >= 5 && !strcmp(words[3], "keys")) {
@@ -207,8 +236,8 @@ int main(int count, char **words) {
         const struct selection *selection = strcmp(words[3], "halves") ? NULL : selection_named(words[2]);
         int next = 4 + take_cases(count - 4, words + 4, &small, &large);
         subject = subject_named(words[2]);
-        w.method = (uint32_t)atoi(words[3]);
-        bool fits = selection || (subject && w.method >= 2 && w.method <= 3);
+        method = method_numbered(words[3]);
+        bool fits = selection || (subject && method);
         if (fits && take_part(count - next, words + next) && read_operands(words[1]))
             return selection ? audit_selection(selection, small, large) : audit(small, large);
     }

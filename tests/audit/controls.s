@@ -258,6 +258,14 @@ control joined_leftovers
     or (%rax), %r10b
     refuse
 
+# Of what method 5 leaves, two leftovers of the second half: they tell the input beside x0.
+control joined_second_half
+    mov 56(%rsp), %rax
+    add 48(%rsp), %rax
+    movb 1(%rax), %r10b
+    or (%rax), %r10b
+    refuse
+
 # Silent, and must pass: the same two one after the other.
 control single_leftovers
     mov 56(%rsp), %rax

@@ -93,6 +93,7 @@ SELECTIONS(SCREEN_DECLARATION)
 void control_log_entries(void);
 void control_log_reads(void);
 void control_joined_leftovers(void);
+void control_joined_second_half(void);
 void control_single_leftovers(void);
 void control_early_exit(void);
 void control_reading_clear(void);
@@ -113,6 +114,10 @@ void joined_frame(void);
 void beside_frame(void);
 void frame_control_neighbours(void);
 void frame_stand_in(void);
+void output_masks_5(void);
+void input_masks_5(void);
+void one_pass_5(void);
+void two_bytes_5(void);
 void guarded_plain_call(void);
 void guarded_logged_call(void);
 void guarded_bare_call(void);
@@ -121,16 +126,24 @@ void baseline_plain_call(void);
 const struct subject *subject_named(const char *name) {
     static const struct subject subjects[] = {
         {"plain", cippazhey_plain_call, 0, 11, BY_TABLE},
+        {"plain_not_affine", cippazhey_plain_call, 12, 1, 0},
         {"logged", cippazhey_logged_call, 0, 2, LOGGED},
         {"guarded", guarded_plain_call, 0, 3, CONTROL | BY_WIDTH},
         {"unguarded", baseline_plain_call, 0, 3, CONTROL | BY_WIDTH},
         {"guarded_logged", guarded_logged_call, 0, 2, CONTROL | LOGGED | BY_WIDTH},
+        {"output_masks_5", output_masks_5, 0, 3, CONTROL},
+        {"input_masks_5", input_masks_5, 0, 3, CONTROL},
+        {"one_pass_5", one_pass_5, 0, 3, CONTROL},
+        {"two_bytes_5", two_bytes_5, 0, 3, CONTROL},
+        {"two_bytes_5_not_affine", two_bytes_5, 12, 1, CONTROL},
         {"log_entries", control_log_entries, 0, 1, CONTROL | LOGGED},
         {"log_reads", control_log_reads, 0, 1, CONTROL | LOGGED},
         {"inputs", guarded_bare_call, 11, 1, CONTROL}, // it checks no table, so it looks up in one that is not fit
         {"used", cippazhey_plain_call, 12, 1, USED},
+        {"used_by_5", cippazhey_plain_call, 12, 1, USED | LEFT_BY_5},
         {"joined_leftovers", control_joined_leftovers, 12, 1, CONTROL | USED},
         {"joined_leftovers_affine", control_joined_leftovers, 0, 3, CONTROL | USED},
+        {"joined_second_half", control_joined_second_half, 12, 1, CONTROL | USED | LEFT_BY_5},
         {"single_leftovers", control_single_leftovers, 12, 1, CONTROL | USED},
         {"early_exit", control_early_exit, 12, 1, CONTROL | USED},
         {"clear", cippazhey_clear, 0, 3, CLEARS},

@@ -3,12 +3,13 @@
 #define SUBJECTS_H
 
 enum {
-    LOGGED = 1,   // it writes a log, and each 32 bits of what it handles, as wide as an entry, are a probe of their own
-    CONTROL = 2,  // the audit is tried on it: the first case that leaks is enough
-    BY_WIDTH = 4, // it may run other code at n = 8 than at small widths
-    USED = 8,     // it is called on the scratch that a call under method 2 with the same numbers has left, and refuses it
-    CLEARS = 16,  // it takes the scratch alone, as such a call has left it, and clears it
-    BY_TABLE = 32 // it may run other code on a table that is not balanced, and is audited on one at n = m = 8 too
+    LOGGED = 1,    // it writes a log, and each 32 bits of what it handles, as wide as an entry, are a probe of their own
+    CONTROL = 2,   // the audit is tried on it: the first case that leaks is enough
+    BY_WIDTH = 4,  // it may run other code at n = 8 than at small widths
+    USED = 8,      // it is called on the scratch that a call under method 2 with the same numbers has left, and refuses it
+    CLEARS = 16,   // it takes the scratch alone, as such a call has left it, and clears it
+    BY_TABLE = 32, // it may run other code on a table that is not balanced, and is audited on one at n = m = 8 too
+    LEFT_BY_5 = 64 // the scratch was left by a call under method 5, both halves
 };
 
 struct subject {

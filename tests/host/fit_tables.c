@@ -7,7 +7,7 @@
 enum { TABLES = 8 };
 
 static void fit_at(struct shape shape) {
-    struct trial trial = on_zeros(2 + below(2), shape.n, shape.m);
+    struct trial trial = on_zeros(some_method(), shape.n, shape.m);
     fill_fit(trial.table, shape);
     expect(&trial, 0, "a coset");
     for (uint32_t wider = shape.m + 1; wider <= 8; wider++) {
@@ -17,14 +17,14 @@ static void fit_at(struct shape shape) {
 
 // At n = 1 there are two entries at most that differ, and every table is fit.
 static void changed_entry_at(struct shape shape) {
-    struct trial trial = on_zeros(2 + below(2), shape.n, shape.m);
+    struct trial trial = on_zeros(some_method(), shape.n, shape.m);
     fill_fit(trial.table, shape);
     change_entry(trial.table, shape);
     expect(&trial, shape.n == 1 ? 0 : 7, "one entry changed");
 }
 
 static void refused_at(struct shape shape, void (*fill)(uint8_t *, struct shape), const char *what) {
-    struct trial trial = on_zeros(2 + below(2), shape.n, shape.m);
+    struct trial trial = on_zeros(some_method(), shape.n, shape.m);
     fill(trial.table, shape);
     expect(&trial, 7, what);
 }

@@ -1,4 +1,4 @@
-// The header against the archive, in C and in C++: the calls' types, each number of the enum, both lengths, what no fault is, the names of
+// The header against the archive, in C and in C++: the calls' types, each number of the enum, the lengths, what no fault is, the names of
 // the parameters, and the helpers. Prints a line for each that is wrong; exits with 1 if one is. Compile it with CALL_BY_NAME,
 // FRAME_BY_NAME, SELECT_BY_NAME, SCREEN_BY_NAME and CLEAR_BY_NAME, calls whose arguments are the names of the parameters in the header's order.
 #include "cippazhey.h"
@@ -25,7 +25,7 @@ static clear_call *const typed_clear = cippazhey_clear;
 enum { METHOD, N, M, X0, R1, R2, S1, S2, R3, B, NUMBERS };
 
 // A call at n = 3: its result, its numbers in the order above, its table, the lengths of table and scratch, and the last byte of
-// scratch. The others are zero.
+// that scratch. The others are zero.
 struct trial {
     unsigned refusal, share;
     uint32_t number[NUMBERS];
@@ -42,6 +42,7 @@ static const struct trial trials[] = {
     {CIPPAZHEY_ACCEPTED, 0, {3, 3, 1, 6, 1, 5, 1, 0, 4, 0}, balanced, 8, 8, 0},
     {CIPPAZHEY_ACCEPTED, 1, {2, 3, 1, 6, 1, 3, 0, 0, 3, 0}, balanced, 8, 8, 0},
     {CIPPAZHEY_ACCEPTED, 11, {2, 3, 4, 6, 1, 3, 15, 0, 3, 0}, two_values, 8, 8, 0},
+    {CIPPAZHEY_ACCEPTED, 1, {5, 3, 1, 6, 1, 5, 0, 0, 0, 0}, balanced, 8, 16, 0},
     {CIPPAZHEY_REFUSED_METHOD, 0, {4, 3, 1, 6, 1, 5, 1, 0, 4, 1}, balanced, 8, 8, 0},
     {CIPPAZHEY_REFUSED_INPUT_WIDTH, 0, {3, 9, 1, 6, 1, 5, 1, 0, 4, 1}, balanced, 8, 8, 0},
     {CIPPAZHEY_REFUSED_OUTPUT_WIDTH, 0, {3, 3, 9, 6, 1, 5, 1, 0, 4, 1}, balanced, 8, 8, 0},
@@ -50,9 +51,13 @@ static const struct trial trials[] = {
     {CIPPAZHEY_REFUSED_UNFIT_TABLE, 0, {3, 3, 1, 6, 1, 5, 1, 0, 4, 1}, unfit, 8, 8, 0},
     {CIPPAZHEY_REFUSED_INPUT_SHARE, 0, {3, 3, 1, 8, 1, 5, 1, 0, 4, 1}, balanced, 8, 8, 0},
     {CIPPAZHEY_REFUSED_OUTPUT_MASK, 0, {3, 3, 1, 6, 1, 5, 2, 0, 4, 1}, balanced, 8, 8, 0},
-    {CIPPAZHEY_REFUSED_BIT, 0, {3, 3, 1, 6, 1, 5, 1, 0, 4, 2}, balanced, 8, 8, 0},
+    {CIPPAZHEY_REFUSED_OWN_MASK, 0, {3, 3, 1, 6, 1, 5, 1, 0, 4, 2}, balanced, 8, 8, 0},
+    {CIPPAZHEY_REFUSED_OWN_MASK, 0, {5, 3, 1, 6, 1, 5, 1, 0, 4, 0}, balanced, 8, 16, 0},
+    {CIPPAZHEY_REFUSED_OWN_MASK, 0, {5, 3, 1, 6, 1, 5, 1, 0, 0, 1}, balanced, 8, 16, 0},
     {CIPPAZHEY_REFUSED_SCRATCH_LENGTH, 0, {3, 3, 1, 6, 1, 5, 1, 0, 4, 1}, balanced, 8, 7, 0},
+    {CIPPAZHEY_REFUSED_SCRATCH_LENGTH, 0, {5, 3, 1, 6, 1, 5, 1, 0, 0, 0}, balanced, 8, 15, 0},
     {CIPPAZHEY_REFUSED_DIRTY_SCRATCH, 0, {3, 3, 1, 6, 1, 5, 1, 0, 4, 1}, balanced, 8, 8, 1},
+    {CIPPAZHEY_REFUSED_DIRTY_SCRATCH, 0, {5, 3, 1, 6, 1, 5, 1, 0, 0, 0}, balanced, 8, 16, 1},
 };
 enum { TRIALS = sizeof trials / sizeof *trials };
 
@@ -72,7 +77,8 @@ static uint16_t by_name(const struct trial *trial) {
     uint32_t s1 = number[S1], s2 = number[S2], r3 = number[R3], b = number[B];
     const uint8_t *table = trial->table;
     size_t table_length = trial->table_length, scratch_length = trial->scratch_length;
-    uint8_t scratch[8] = {0, 0, 0, 0, 0, 0, 0, trial->last_byte};
+    uint8_t scratch[16] = {0};
+    scratch[scratch_length - 1] = trial->last_byte;
     return CALL_BY_NAME;
 }
 
@@ -112,10 +118,10 @@ static void stated_scratch_length(void) {
     for (int entry = 0; entry < 256; entry++) {
         table[entry] = (uint8_t)(255 - entry);
     }
-    uint16_t enough = typed_call(3, 8, 8, 90 ^ 17 ^ 34, 17, 34, 1, 2, 200, 1, table, 256, scratch, CIPPAZHEY_SCRATCH_LENGTH);
+    uint16_t enough = typed_call(5, 8, 8, 90 ^ 17 ^ 34, 17, 34, 1, 2, 0, 0, table, 256, scratch, CIPPAZHEY_SCRATCH_LENGTH);
     typed_clear(scratch, CIPPAZHEY_SCRATCH_LENGTH);
-    uint16_t again = typed_call(3, 8, 8, 90 ^ 17 ^ 34, 17, 34, 1, 2, 200, 1, table, 256, scratch, CIPPAZHEY_SCRATCH_LENGTH);
-    uint16_t less = typed_call(3, 8, 8, 90 ^ 17 ^ 34, 17, 34, 1, 2, 200, 1, table, 256, scratch, CIPPAZHEY_SCRATCH_LENGTH - 1);
+    uint16_t again = typed_call(5, 8, 8, 90 ^ 17 ^ 34, 17, 34, 1, 2, 0, 0, table, 256, scratch, CIPPAZHEY_SCRATCH_LENGTH);
+    uint16_t less = typed_call(5, 8, 8, 90 ^ 17 ^ 34, 17, 34, 1, 2, 0, 0, table, 256, scratch, CIPPAZHEY_SCRATCH_LENGTH - 1);
     hold(enough == 166, "result at the stated scratch length", enough);
     hold(again == 166, "result on cleared scratch", again);
     hold(cippazhey_share_of(enough) == 166, "share at the stated scratch length", cippazhey_share_of(enough));
@@ -127,7 +133,7 @@ enum { FRAME_BLOCKS = 7 };
 
 // Passes each block and each length for the parameter that the header gives its name to.
 static uint32_t frame_by_name(uint8_t blocks[FRAME_BLOCKS][16], const uint8_t *random, size_t random_length, size_t scratch_length) {
-    uint8_t scratch[CIPPAZHEY_SCRATCH_LENGTH];
+    uint8_t scratch[CIPPAZHEY_FRAME_SCRATCH_LENGTH];
     const uint8_t *plaintext = blocks[0], *key1 = blocks[1], *key2 = blocks[2], *key3 = blocks[3];
     uint8_t *share1 = blocks[4], *share2 = blocks[5], *share3 = blocks[6];
     return FRAME_BY_NAME;
@@ -136,9 +142,9 @@ static uint32_t frame_by_name(uint8_t blocks[FRAME_BLOCKS][16], const uint8_t *r
 // FIPS 197, appendix C.1, with shares that all differ: by name and by place the frame must have the same results.
 static void encrypted_frame(void) {
     static const uint8_t ciphertext[] = {0x69, 0xc4, 0xe0, 0xd8, 0x6a, 0x7b, 0x04, 0x30, 0xd8, 0xcd, 0xb7, 0x80, 0x70, 0xb4, 0xc5, 0x5a};
-    static uint8_t random[CIPPAZHEY_RANDOM_LENGTH + 1], scratch[CIPPAZHEY_SCRATCH_LENGTH];
+    static uint8_t random[CIPPAZHEY_RANDOM_LENGTH + 1], scratch[CIPPAZHEY_FRAME_SCRATCH_LENGTH];
     static uint8_t named[FRAME_BLOCKS][16], placed[FRAME_BLOCKS][16];
-    const size_t random_length = CIPPAZHEY_RANDOM_LENGTH, scratch_length = CIPPAZHEY_SCRATCH_LENGTH;
+    const size_t random_length = CIPPAZHEY_RANDOM_LENGTH, scratch_length = CIPPAZHEY_FRAME_SCRATCH_LENGTH;
     for (int place = 0; place < 16; place++) {
         named[0][place] = (uint8_t)(17 * place);
         named[2][place] = (uint8_t)(100 + 3 * place);

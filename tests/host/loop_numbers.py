@@ -17,6 +17,10 @@ OVER_TABLES = {
     "method3::prepare",
     "method3::select",
     "method3::logged::select",
+    "method5::fill_first",
+    "method5::fill_second",
+    "method5::logged::fill_first",
+    "method5::logged::fill_second",
 }
 # The functions with a loop over something else, and what that is.
 OTHERS = {

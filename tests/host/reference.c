@@ -55,7 +55,7 @@ static bool fit(const uint8_t *table, size_t entries) {
 }
 
 static unsigned table_refusal(struct lookup call) {
-    if (call.method != 2 && call.method != 3) {
+    if (call.method != 2 && call.method != 3 && call.method != 5) {
         return 2;
     }
     if (call.n < 1 || call.n > 8) {
@@ -96,6 +96,9 @@ static unsigned mask_refusal(struct lookup call) {
     if (call.method == 3 && call.b > 1) {
         return 12;
     }
+    if (call.method == 5 && (call.r3 > 0 || call.b > 0)) {
+        return 12;
+    }
     return 0;
 }
 
@@ -109,13 +112,18 @@ static bool clean(const uint8_t *scratch, size_t bytes) {
     return true;
 }
 
+// How many bytes of scratch the method needs: a byte for each entry, under method 5 two.
+static size_t needed(struct lookup call) {
+    size_t entries = (size_t)1 << call.n;
+    return call.method == 5 ? 2 * entries : entries;
+}
+
 // Asked only once n is known to be from 1 to 8.
 static unsigned scratch_refusal(struct lookup call, const uint8_t *scratch, size_t scratch_length) {
-    size_t entries = (size_t)1 << call.n;
-    if (scratch_length < entries) {
+    if (scratch_length < needed(call)) {
         return 13;
     }
-    if (!clean(scratch, entries)) {
+    if (!clean(scratch, needed(call))) {
         return 19;
     }
     return 0;
@@ -159,11 +167,31 @@ static uint8_t method_3(struct lookup call, uint8_t *scratch) {
     return registers[call.b];
 }
 
+static uint8_t method_5(struct lookup call, uint8_t *scratch) {
+    uint32_t entries = (uint32_t)1 << call.n;
+    uint8_t *first = scratch, *second = scratch + entries;
+    for (uint32_t a = 0; a < entries; a++) {
+        first[a] = (uint8_t)(call.table[a ^ call.r1] ^ call.s1);
+    }
+    for (uint32_t a = 0; a < entries; a++) {
+        second[a] = (uint8_t)(first[a ^ call.r2] ^ call.s2);
+    }
+    return second[call.x0];
+}
+
+static uint8_t looked_up(struct lookup call, uint8_t *scratch) {
+    switch (call.method) {
+    case 2: return method_2(call, scratch);
+    case 3: return method_3(call, scratch);
+    default: return method_5(call, scratch);
+    }
+}
+
 uint16_t reference_plain_call(struct lookup call, uint8_t *scratch, size_t scratch_length) {
     unsigned number = refusal(call, scratch, scratch_length);
     if (number != 0) {
         return (uint16_t)(number * 256);
     }
-    uint8_t share = call.method == 2 ? method_2(call, scratch) : method_3(call, scratch);
+    uint8_t share = looked_up(call, scratch);
     return share;
 }

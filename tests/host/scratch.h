@@ -5,7 +5,7 @@
 #include "trial.h"
 
 // An accepted call with one byte of its scratch not zero, or all, and scratch longer than it needs.
-void dirty_scratch(const struct trial *fine, uint32_t entries);
+void dirty_scratch(const struct trial *fine);
 
 // Lengths that come into range when they are cut to 8 or 16 bits, and dirt at such places.
 void long_buffers(void);

@@ -11,6 +11,20 @@
 enum { GUARD = 64, ROOM = GUARD + LONGEST + GUARD };
 
 unsigned long met[256];
+const struct way ways[WAYS] = {{2, 0}, {3, 0}, {3, 1}, {5, 0}};
+const uint32_t methods[METHODS] = {2, 3, 5};
+
+uint32_t some_method(void) {
+    return methods[below(METHODS)];
+}
+
+uint32_t scratch_needed(uint32_t method, uint32_t n) {
+    return method == 5 ? 2 * power(n) : power(n);
+}
+
+uint32_t limit_of_r3(uint32_t method, uint32_t n) {
+    return method == 5 ? 1 : power(n);
+}
 
 // Bytes of which none is zero. They differ from place to place, and by the first of them from one filling to the next.
 static void fill_dirty(uint8_t *bytes, size_t count) {
@@ -25,15 +39,15 @@ void make_dirty(struct trial *trial, size_t from) {
 }
 
 struct trial on_zeros(uint32_t method, uint32_t n, uint32_t m) {
-    uint32_t entries = power(n), values = power(m);
-    struct trial trial = {{method, n, m, 0, 0, 0, 0, 0, 0, method == 3 ? below(2) : 0}, {0}, {0}, entries, entries};
+    uint32_t entries = power(n), values = power(m), needed = scratch_needed(method, n);
+    struct trial trial = {{method, n, m, 0, 0, 0, 0, 0, 0, method == 3 ? below(2) : 0}, {0}, {0}, entries, needed};
     trial.number[X0] = below(entries);
     trial.number[R1] = below(entries);
     trial.number[R2] = below(entries);
-    trial.number[R3] = below(entries);
+    trial.number[R3] = below(limit_of_r3(method, n));
     trial.number[S1] = below(values);
     trial.number[S2] = below(values);
-    make_dirty(&trial, entries);
+    make_dirty(&trial, needed);
     return trial;
 }
 

@@ -10,7 +10,20 @@
 
 enum { METHOD, N, M, X0, R1, R2, S1, S2, R3, B, NUMBERS };
 // The longest table and scratch of a trial.
-enum { LONGEST = 600 };
+enum { LONGEST = 800 };
+
+// Every way to look up: a method with each b that it takes.
+enum { WAYS = 4, METHODS = 3 };
+struct way {
+    uint32_t method, b;
+};
+extern const struct way ways[WAYS];
+extern const uint32_t methods[METHODS];
+uint32_t some_method(void);
+
+// How many bytes of scratch a method needs, and how many values of r3 it takes: under method 5 it is always 0.
+uint32_t scratch_needed(uint32_t method, uint32_t n);
+uint32_t limit_of_r3(uint32_t method, uint32_t n);
 
 // A call to make: its numbers in the order of the parameters, what table and scratch hold, and the lengths to lend.
 struct trial {
@@ -25,8 +38,8 @@ extern unsigned long met[256];
 // Fills scratch from a place on, as far as any length, with bytes of which none is zero.
 void make_dirty(struct trial *trial, size_t from);
 
-// A call that is accepted: random masks, a table of zeros, and scratch that just suffices. Scratch is zero in its first 2^n bytes and dirty
-// behind them, so that it shows where a call that is lent more looks or writes there.
+// A call that is accepted: random masks, a table of zeros, and scratch that just suffices. Scratch is zero in the bytes that are needed and
+// dirty behind them, so that it shows where a call that is lent more looks or writes there.
 struct trial on_zeros(uint32_t method, uint32_t n, uint32_t m);
 
 // The same on a random table that is fit. Where m is not above n, half of the tables are balanced, or more.

@@ -45,14 +45,13 @@ def chained_call(first, second, tables, scratches, logs):
 
 # Every choice of the masks that the second call draws.
 def second_choices(method, n, m):
-    bits = {2: [0], 3: [0, 1]}[method]
-    for masks in itertools.product(range(2**m), range(2**m), range(2**n), bits):
+    for masks in itertools.product(range(2**m), range(2**m), *model.drawn(method, n)):
         yield Second(method, n, m, *masks)
 
 
 # What a run on clean scratch answers, and the values that its log shows.
 def shown_run(case, table):
-    answer, _, log = model.run(case, table, [0] * 2**case.n)
+    answer, _, log = model.run(case, table, [0] * model.scratch_length(case.method, case.n))
     return answer, bytes(value for _, value in log)
 
 

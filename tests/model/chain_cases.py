@@ -1,16 +1,18 @@
 # The cases of the chained call for the program test_chained_calls, and what the model says of each.
-# A case is two records of the form of logged_cases.py, the first call's and the second's, whose x0, r1 and r2 are not looked at: the first
+# A case is two records as call_records.py has them, the first call's and the second's, whose x0, r1 and r2 are not looked at: the first
 # hands them on. The answers are one line a case: refusal, share and both counts, then both lent scratches and both lent logs after the
 # call, whole where that call's n is at most 2, and as a checksum each where it is larger.
+import itertools
 from collections import namedtuple
 
+import call_records
 import chain
 import logged_cases
-from logged_cases import OTHER_FAULTS, P1, P2, P3, TABLE_FAULTS, VALVE
-from logged_cases import accepted, any_method, chance, roomier, with_buffers, with_numbers
-from model import Case
+from call_records import accepted, any_method, chance, roomier, with_buffers, with_numbers
+from logged_cases import OTHER_FAULTS, P1, P2, P2_BY_5, P3, TABLE_FAULTS, VALVE
+from model import METHODS, Case
 
-# A chained call: two calls as in logged_cases.py.
+# A chained call: two calls as in call_records.py.
 Chain = namedtuple("Chain", "first second")
 
 
@@ -27,19 +29,19 @@ def in_either(call):
     return Chain(accepted(any_method(), chance.randint(1, 8), n), call)
 
 
-# P1, P2 and P3 of the bench sheet, each before a call that looks up what they find, 0 or 1. The valve maker's table before P2's and behind
-# P1.
+# P1, P2 and P3 of the bench sheet, and P2 under method 5, each before a call that looks up what they find, 0 or 1. The valve maker's table
+# before P2's and behind P1.
 def bench_sheet():
     yield Chain(P1, with_buffers(Case(2, 1, 1, 1, 0, 1, 1, 1, 0, 0), [1, 0]))
-    yield from (Chain(VALVE, P2), Chain(VALVE, P3), Chain(P1, VALVE))
+    yield from (Chain(VALVE, P2), Chain(VALVE, P3), Chain(VALVE, P2_BY_5), Chain(P1, VALVE))
     case = Case(2, 2, 1, 2, 3, 0, 1, 0, 2, 0)
-    for second in (case, case._replace(method=3, b=1)):
-        yield from (Chain(first, with_buffers(second, [0, 1, 1, 0])) for first in (P2, P3))
+    for second in (case, case._replace(method=3, b=1), case._replace(method=5, r3=0)):
+        yield from (Chain(first, with_buffers(second, [0, 1, 1, 0])) for first in (P2, P3, P2_BY_5))
 
 
 # Each pairing of methods, with buffers that just suffice and longer ones.
 def every_pairing():
-    for methods in ((2, 2), (2, 3), (3, 2), (3, 3)):
+    for methods in itertools.product(METHODS, repeat=2):
         for widths in ((1, 1, 1), (2, 1, 1), (2, 2, 1), (1, 2, 2), (1, 2, 3), (3, 2, 1), (8, 8, 8)):
             yield accepted_chain(*widths, methods)
             yield Chain(*map(roomier, accepted_chain(*widths, methods)))
@@ -105,18 +107,18 @@ def two_faults():
 
 
 def record(calls):
-    return b"".join(map(logged_cases.record, calls))
+    return b"".join(map(call_records.record, calls))
 
 
 def answer(calls):
     method, n, m, _, _, _, *masks = calls.second.case
-    scratches, logs = zip(*map(logged_cases.lent, calls))
+    scratches, logs = zip(*map(call_records.lent, calls))
     tables = [call.table for call in calls]
     *numbers, scratch, second_scratch, log, second_log = chain.chained_call(
         calls.first.case, chain.Second(method, n, m, *masks), tables, scratches, logs
     )
     left = (calls.first, scratch), (calls.second, second_scratch), (calls.first, log), (calls.second, second_log)
-    return [*numbers, *(value for call, buffer in left for value in logged_cases.printed(call, buffer))]
+    return [*numbers, *(value for call, buffer in left for value in call_records.printed(call, buffer))]
 
 
 KINDS = (bench_sheet, every_pairing, every_width, unequal_widths, one_faulty, two_faults)

@@ -4,9 +4,11 @@ import sys
 
 import check_calls
 import check_chain
+import check_chain_leaks
 import check_counts
 import check_frame
 import check_leaks
+import check_methods
 import check_print
 import check_sbox
 import check_screening
@@ -16,9 +18,10 @@ import check_tables
 
 # For each module, what holds it to them. The quick parts come first: a wrong model is then noticed sooner.
 PARTS = {
-    "model": (check_small, check_print, check_calls, check_tables, check_leaks),
+    "methods": (check_methods,),
+    "model": (check_small, check_print, check_calls, check_tables, check_methods, check_leaks),
     "counts": (check_counts,),
-    "chain": (check_chain,),
+    "chain": (check_chain, check_chain_leaks),
     "sbox": (check_sbox,),
     "screening": (check_screening,),
     "frame": (check_frame,),
@@ -28,12 +31,14 @@ PARTS = {
 # How many comparisons each makes: a group that is left out, or that compares nothing, is missed here alone.
 COMPARISONS = {
     check_small: 1253,
-    check_print: 31,
-    check_calls: 120005,
-    check_tables: 1296,
-    check_leaks: 226,
-    check_counts: 11222,
-    check_chain: 46416,
+    check_print: 35,
+    check_calls: 35113,
+    check_tables: 1340,
+    check_methods: 169939,
+    check_leaks: 357,
+    check_counts: 17969,
+    check_chain: 66166,
+    check_chain_leaks: 91,
     check_sbox: 7,
     check_screening: 420,
     check_frame: 467,

@@ -1,25 +1,13 @@
-# Holds the model's logged and plain call, its clearing, its logs and its counts to what is required of them (docs/REFERENCE.md). Each
-# group yields a name, what the model says and what it should say.
+# Holds the model's logged and plain call, its clearing and its entries to what is required of them (docs/REFERENCE.md): the bench sheet,
+# the refusals with their order and what is just inside, the widths. Each group yields a name, what the model says and what it should say.
 import itertools
 
 import model
+from check_methods import P2, P2_BY_5, P3, TOP, lent_log, log_length, old_log, says_the_same, scratch_length
 from document import KINDS, LENGTHS, TABLE_A
 from model import Case
 
-P2 = Case(method=2, n=2, m=2, x0=0, r1=1, r2=2, s1=3, s2=0, r3=2, b=0)
-P3 = P2._replace(method=3, b=1)
 P6 = P2._replace(m=1, s1=1, s2=0)
-TOP = 2**32 - 1
-
-
-def log_length(method, n):
-    head, turn, end = KINDS[method]
-    return len(head) + len(turn) * 2**n + len(end)
-
-
-# A log to lend: no two entries are equal and none fits 16 bits, so that any change of one shows.
-def lent_log(entries):
-    return [TOP - place for place in range(entries)]
 
 
 # The refusal, the answer and the scratch of a logged call, with buffers that suffice at n = 2 where none are given. Bench calls begin
@@ -52,6 +40,7 @@ def bench_sheet():
     yield "P9 method 2", refusal_of(P2._replace(b=1), TABLE_A), 12
     yield "P9 method 3", refusal_of(P3._replace(b=2), TABLE_A), 12
     yield "P10", refusal_of(P2._replace(method=4, n=9), TABLE_A), 2
+    yield "P10 by 6", refusal_of(P2._replace(method=6, n=9), TABLE_A), 2
     for secret in (0, 1):
         each_eight = {(0, 0): 8, (0, 1): 8, (1, 0): 8, (1, 1): 8}
         yield f"P12 at {secret}", model.pair_counts([1, 0], 2, 1, 1, secret, 0, 21), each_eight
@@ -69,59 +58,46 @@ def dirty_bench_calls():
     yield "P2 again, cleared", outcome(P2, TABLE_A, scratch=model.clear(left)), (0, 2, left)
 
 
+# P2's table, secret and masks under method 5: what it leaves, and beside it the refusals that go by the method.
+def calls_by_5():
+    zeros, left = [0] * 8, [3, 1, 2, 0, 2, 0, 3, 1]
+    yield "P2 by 5", outcome(P2_BY_5, TABLE_A, scratch=zeros), (0, 2, left)
+    yield "P2 by 5, more scratch", outcome(P2_BY_5, TABLE_A, scratch=[*zeros, 1, 255]), (0, 2, [*left, 1, 255])
+    yield "scratch of 7", refusal_of(P2_BY_5, TABLE_A, scratch=zeros[1:]), 13
+    yield "scratch of 4", refusal_of(P2_BY_5, TABLE_A, scratch=zeros[4:]), 13
+    yield "scratch of 7, dirty", outcome(P2_BY_5, TABLE_A, scratch=[1] * 7), (13, 0, [1] * 7)
+    for place in range(8):
+        dirty = [*zeros[:place], 1, *zeros[place + 1 :]]
+        yield f"byte {place} dirty", outcome(P2_BY_5, TABLE_A, scratch=dirty), (19, 0, dirty)
+        yield f"byte {place} dirty, short log", refusal_of(P2_BY_5, TABLE_A, scratch=dirty, log_entries=38), 19
+    yield "log of 38", refusal_of(P2_BY_5, TABLE_A, scratch=zeros, log_entries=38), 14
+    yield "log of 39", refusal_of(P2_BY_5, TABLE_A, scratch=zeros, log_entries=39), 0
+    for r3, refusal in ((1, 12), (2, 12), (3, 12), (4, 10), (255, 10), (256, 10), (TOP, 10)):
+        yield f"r3 = {r3}", refusal_of(P2_BY_5._replace(r3=r3), TABLE_A, scratch=zeros), refusal
+        yield f"r3 = {r3}, b = 1", refusal_of(P2_BY_5._replace(r3=r3, b=1), TABLE_A, scratch=zeros), refusal
+        yield f"r3 = {r3}, s1 = 4", refusal_of(P2_BY_5._replace(r3=r3, s1=4), TABLE_A, scratch=zeros), 10 if refusal == 10 else 11
+        yield f"r3 = {r3}, no scratch", refusal_of(P2_BY_5._replace(r3=r3), TABLE_A, scratch=[]), refusal
+    for b in (1, 2, 256, TOP):
+        yield f"b = {b}", refusal_of(P2_BY_5._replace(b=b), TABLE_A, scratch=zeros), 12
+    for method in (4, 6, 5 + 256, 5 + 2**16, TOP):
+        yield f"method {method}", refusal_of(P2_BY_5._replace(method=method), TABLE_A, scratch=zeros), 2
+    for secret in (0, 1):
+        each_four = {(0, 0): 4, (0, 1): 4, (1, 0): 4, (1, 1): 4}
+        yield f"P12 by 5 at {secret}", model.pair_counts([1, 0], 5, 1, 1, secret, 0, 22), each_four
+
+
 def lengths():
     for method, by_width in LENGTHS.items():
         for n, figure in by_width.items():
             case, table = Case(method, n, n, 0, 0, 0, 0, 0, 0, 0), list(range(2**n))
+            zeros = [0] * scratch_length(method, n)
             name = f"length of method {method} at n = {n}"
             yield name, model.log_length(method, n), figure
-            yield name + ", logged", model.logged_call(case, table, [0] * 256, [0] * 2314)[2], figure
-            yield name + ", just enough", refusal_of(case, table, scratch=[0] * 2**n, log_entries=figure), 0
-            yield name + ", one less", refusal_of(case, table, scratch=[0] * 2**n, log_entries=figure - 1), 14
-
-
-# The values of a log, in the order of the lists of kinds (document.py).
-def values_2(case, table):
-    _, n, _, x0, r1, r2, s1, s2, r3, _ = case
-    r_prime = r1 ^ r3 ^ r2
-    yield from (x0, r1, r2, s1, s2, r3, r1 ^ r3, r_prime)
-    for a in range(2**n):
-        entry = table[x0 ^ a]
-        yield from (a, a ^ r_prime, x0 ^ a, entry, entry ^ s1, entry ^ s1 ^ s2)
-    yield from (r3, table[x0 ^ r1 ^ r2] ^ s1 ^ s2)
-
-
-def values_3(case, table):
-    _, n, _, x0, r1, r2, s1, s2, r3, b = case
-    yield from (x0, r1, r2, s1, s2, b, r3, 1 - b)
-    for a in range(2**n):
-        entry = table[x0 ^ a]
-        match = a == r1 ^ r2
-        yield from (a, r1 ^ a, r1 ^ a ^ r3, r1 ^ a ^ r3 ^ r2, b if match else 1 - b)
-        yield from (x0 ^ a, entry, entry ^ s1, entry ^ s1 ^ s2)
-    yield from (b, table[x0 ^ r1 ^ r2] ^ s1 ^ s2)
-
-
-# What each entry of a log says: its kind and its value.
-def said(case, table):
-    head, turn, end = KINDS[case.method]
-    values = {2: values_2, 3: values_3}[case.method](case, table)
-    return list(zip(head + turn * 2**case.n + end, values, strict=True))
-
-
-def whole_log(case, table):
-    return [kind * 65536 + value for kind, value in said(case, table)]
-
-
-# The log of before, when an entry had 16 bits.
-def old_log(case, table):
-    return [kind * 256 + value for kind, value in said(case, table)]
-
-
-# At each position an entry says what the one of before said. That one's value is below 256, so every value still is.
-def says_the_same(name, log, old):
-    yield (name, "kinds"), [entry // 65536 for entry in log], [entry // 256 for entry in old]
-    yield (name, "values"), [entry % 65536 for entry in log], [entry % 256 for entry in old]
+            yield name + ", logged", model.logged_call(case, table, [0] * 512, [0] * 2314)[2], figure
+            yield name + ", just enough", refusal_of(case, table, scratch=zeros, log_entries=figure), 0
+            yield name + ", one less", refusal_of(case, table, scratch=zeros, log_entries=figure - 1), 14
+            yield name + ", scratch", model.scratch_length(method, n), len(zeros)
+            yield name + ", a byte less", refusal_of(case, table, scratch=zeros[1:], log_entries=figure), 13
 
 
 # Worked by hand: kinds and values up to the largest that are asked for, 29 and 65535, and the largest entry that there can be.
@@ -148,94 +124,49 @@ def packing():
             yield f"{kind} and {value} taken apart", (model.kind_of(entry), model.value_of(entry)), (kind, value)
 
 
-# Accepted cases under both methods at small widths, every choice of masks for a secret each: the case, its table and the share S[x] with
-# both output masks.
-def accepted_cases():
-    tables = {(1, 1): [1, 0], (1, 2): [0, 3], (1, 3): [5, 5], (2, 1): [0, 1, 1, 0], (2, 2): TABLE_A, (2, 3): [1, 2, 4, 7]}
-    balanced = (2, 1, 1, 0), (3, 1, 1, 1), (2, 2, 1, 3), (3, 2, 1, 2), (2, 2, 2, 1), (3, 2, 2, 3)
-    for method, n, m, secret in (*balanced, (2, 1, 2, 1), (3, 1, 2, 0), (2, 1, 3, 0), (2, 2, 3, 2)):
-        table = tables[n, m]
-        for case in model.choices(method, n, m, secret):
-            yield case, table, table[secret] ^ case.s1 ^ case.s2
-
-
-# What every accepted case must come to: its share, the whole log, the same scratch in the plain call, untouched ends.
-def answers():
-    for case, table, share in accepted_cases():
-        end = [7] * (6 - 2**case.n)
-        lent, log = [0] * 2**case.n + end, whole_log(case, table)
-        refusal, answer, count, scratch, left = model.logged_call(case, table, lent, lent_log(50))
-        yield (case, "logged"), (refusal, answer, count), (0, share, len(log))
-        yield (case, "log"), left, log + lent_log(50)[len(log) :]
-        yield from says_the_same(case, left[:count], old_log(case, table))
-        yield (case, "end of the scratch"), scratch[2**case.n :], end
-        yield (case, "plain"), model.plain_call(case, table, lent), (0, share, 0, scratch)
-        yield (case, "exported"), model.exported_call(case, table, lent), (share, scratch)
-
-
-# Method 2 leaves all values of the table in the scratch, each with both output masks, and method 3 both b and 1 - b. So the scratch is
-# clean only where one value alone occurs and the masks cancel it. Else the same call on what it left is refused, and on that cleared it
-# answers again.
-def repeats():
-    for case, table, share in accepted_cases():
-        log = lent_log(50)
-        first = model.logged_call(case, table, [0] * 2**case.n, log)
-        left = first[3]
-        clean = case.method == 2 and set(table) == {case.s1 ^ case.s2}
-        yield (case, "again, logged"), model.logged_call(case, table, left, log), first if clean else (19, 0, 0, left, log)
-        yield (case, "again, plain"), model.plain_call(case, table, left), (0, 0, 0, left) if clean else (19, 0, 0, left)
-        yield (case, "cleared, logged"), model.logged_call(case, table, model.clear(left), log), first
-        yield (case, "cleared, plain"), model.plain_call(case, table, model.clear(left)), (0, share, 0, left)
-
-
-# Scratch byte a ⊕ r' is the masked entry at x0 ⊕ a, so byte c is the one at x ⊕ r3 ⊕ c. Under method 3 byte r3 alone is b.
-def scratches():
-    for case in model.choices(2, 2, 2, 3):
-        wanted = [TABLE_A[3 ^ case.r3 ^ c] ^ case.s1 ^ case.s2 for c in range(4)]
-        yield (case, "scratch"), model.plain_call(case, TABLE_A, [0] * 4)[3], wanted
-    for case in model.choices(3, 2, 2, 3):
-        wanted = [case.b if c == case.r3 else 1 - case.b for c in range(4)]
-        yield (case, "scratch"), model.plain_call(case, TABLE_A, [0] * 4)[3], wanted
-
-
-# A call that is accepted under both methods: its numbers, its table, its scratch with an end that is not looked at, and the length of its
-# log.
-def fine_call(n, m, table):
+# A call that is accepted: its numbers, its table, its scratch with an end that is not looked at, and the length of its log.
+def fine_call(method, n, m, table):
     inputs, outputs = {name: 2**n - 1 for name in ("x0", "r1", "r2")}, {name: 2**m - 1 for name in ("s1", "s2")}
-    numbers = dict(method=2, n=n, m=m, **inputs, **outputs, r3=2**n - 1, b=0)
-    return {**numbers, "table": table, "scratch": [0] * 2**n + [7], "log": log_length(3, n)}
+    numbers = dict(method=method, n=n, m=m, **inputs, **outputs, r3=0 if method == 5 else 2**n - 1, b=0)
+    return {**numbers, "table": table, "scratch": [0] * scratch_length(method, n) + [7], "log": log_length(3, n)}
 
 
 # Faults of it, in the order of the checks: the refusal, what is faulty and what stands there.
-def faults(n, m, table):
-    rest, unclosed = [0] * (2**n - 1), [[0, 1, 2, 4] * 2 ** (n - 2)] if m > 2 else []
+def faults(method, n, m, table):
+    unclosed = [[0, 1, 2, 4] * 2 ** (n - 2)] if m > 2 else []
+    single_one, single_zero = [0] * (2**n - 1) + [1], [1] * (2**n - 1) + [0]
     return [
-        *((2, "method", value) for value in (0, 1, 4, 258, 2**32 - 1)),
+        *((2, "method", value) for value in (0, 1, 4, 6, 258, 261, 2**32 - 1)),
         *((3, "n", value) for value in (0, 9, 256 + n)),
         *((4, "m", value) for value in (0, 9, 256 + m)),
         *((5, "table", value) for value in ([], table[:-1], [*table, 1], [*table, 2**m])),
-        *((6, "table", value) for value in ([2**m, *table[1:]], [*table[:-1], 2**m], [2**m] * 2**n, [*rest, 255])),
-        *((7, "table", value) for value in ([*rest, 1], [1 - byte for byte in (*rest, 1)], *unclosed)),
+        *((6, "table", value) for value in ([2**m, *table[1:]], [*table[:-1], 2**m], [2**m] * 2**n, [*single_one[:-1], 255])),
+        *((7, "table", value) for value in (single_one, single_zero, *unclosed)),
         *((10, name, value) for name in ("x0", "r1", "r2", "r3") for value in (2**n, 256)),
         *((11, name, value) for name in ("s1", "s2") for value in (2**m, 256)),
-        *((12, "b", value) for value in (2, 256)),
-        *((13, "scratch", value) for value in ([], rest, [1, *rest[1:]], [9 for _ in rest])),
+        *((12, "b", value) for value in ((2, 256) if method == 3 else (1, 2, 256))),
+        *((12, "r3", value) for value in ((1, 2**n - 1) if method == 5 else ())),
+        *scratch_faults(method, n),
+        *((14, "log", value) for value in (0, log_length(method, n) - 1)),
+    ]
+
+
+# Of the bytes that must be clean, also those at the end of the first half are dirty, and those at the beginning of the second.
+def scratch_faults(method, n):
+    rest = [0] * (scratch_length(method, n) - 1)
+    half = len(rest) // 2
+    return [
+        *((13, "scratch", value) for value in ([], rest, [1, *rest[1:]], [9 for _ in rest], [0] * half, [0] * (half + 1))),
         *((19, "scratch", [value, *rest]) for value in (1, 2, 128, 255)),
         *((19, "scratch", [*rest, value, 0]) for value in (1, 2, 128, 255)),
+        *((19, "scratch", [*rest[:place], 1, *rest[place:]]) for place in (half, half + 1)),
         *((19, "scratch", value) for value in ([0, 1, *rest[1:]], [*rest[1:], 255, 0], [128, *rest[1:], 128])),
-        *((19, "scratch", value) for value in ([9] * 2**n, list(range(1, 2**n + 3)))),
-        *((14, "log", value) for value in (0, log_length(2, n) - 1)),
+        *((19, "scratch", value) for value in ([9, *(9 for _ in rest)], list(range(1, len(rest) + 4)))),
     ]
 
 
 # With m below n and above it.
 TRIED = (2, 1, [0, 1, 1, 0]), (2, 3, [7, 4, 2, 1])
-FINE = fine_call(*TRIED[0])
-# What stands just inside: the call is still accepted.
-NEIGHBOURS = [
-    *(("scratch", [0, 0, 0, 0, *end]) for end in ([], [1], [255], [0, 1], [255, 255, 255])),
-    *(("log", value) for value in (46, 47)),
-]
 
 
 # What the calls say of such a call: the first refusal, all else 0, and nothing written.
@@ -250,8 +181,8 @@ def refused(call, refusal):
 
 # Each fault, and any two in different places: the one that stands first in the order is returned, which is not always the smaller number.
 def refusals():
-    for method, tried in itertools.product((2, 3), TRIED):
-        fine, known = {**fine_call(*tried), "method": method}, faults(*tried)
+    for method, tried in itertools.product(KINDS, TRIED):
+        fine, known = fine_call(method, *tried), faults(method, *tried)
         for at, (refusal, place, value) in enumerate(known):
             yield from refused({**fine, place: value}, refusal)
             for _, second, value2 in known[at:]:
@@ -259,25 +190,30 @@ def refusals():
                     yield from refused({**fine, place: value, second: value2}, refusal)
 
 
+# What stands just inside: the call is still accepted.
 def neighbours():
-    for method in (2, 3):
-        for place, value in NEIGHBOURS:
-            *numbers, table, scratch, log_entries = {**FINE, "method": method, place: value}.values()
+    for method in KINDS:
+        needed = [0] * scratch_length(method, 2)
+        inside = [("scratch", needed + end) for end in ([], [1], [255], [0, 1], [255, 255, 255])]
+        inside += [("log", value) for value in (log_length(method, 2), 46, 47)]
+        for place, value in inside:
+            *numbers, table, scratch, log_entries = {**fine_call(method, *TRIED[0]), place: value}.values()
             case, name = Case(*numbers), f"{place} {value}, method {method}"
             yield name + ", logged", model.logged_call(case, table, scratch, [9] * log_entries)[:3], (0, 0, LENGTHS[method][2])
             yield name + ", plain", model.plain_call(case, table, scratch)[:3], (0, 0, 0)
             yield name + ", exported", model.exported_call(case, table, scratch)[0], 0
 
 
-# At every width, each of the first 2^n bytes alone is refused where it is not zero, and the byte behind them is accepted.
+# At every width, each byte that the method needs is refused alone where it is not zero, and the byte behind them is accepted.
 def dirty_places():
     for n in range(1, 9):
-        for method in (2, 3):
-            case, table, log = Case(method, n, 1, 0, 0, 0, 0, 0, 0, 0), [0, 1] * 2 ** (n - 1), [9] * model.log_length(method, n)
-            for place in range(2**n + 1):
-                scratch = [0] * (2**n + 1)
+        for method in KINDS:
+            case, table, log = Case(method, n, 1, 0, 0, 0, 0, 0, 0, 0), [0, 1] * 2 ** (n - 1), [9] * log_length(method, n)
+            needed = scratch_length(method, n)
+            for place in range(needed + 1):
+                scratch = [0] * (needed + 1)
                 scratch[place] = 1 + place % 255
-                refusal = 0 if place == 2**n else 19
+                refusal = 0 if place == needed else 19
                 name = f"byte {place} at n = {n}, method {method}"
                 yield name + ", plain", model.plain_call(case, table, scratch)[0], refusal
                 yield name + ", logged", model.logged_call(case, table, scratch, log)[0], refusal
@@ -293,61 +229,25 @@ def clearing():
         yield f"{length} counted bytes back to front cleared", model.clear(counted[::-1]), [0] * length
 
 
-# Every pair of widths under both methods, with what is just inside: the case and its table.
+# Every pair of widths under the methods, with what is just inside: the case and its table.
 def widest_cases():
     for n in range(1, 9):
         for m in range(1, 9):
             top, table = 2**n - 1, [2**m - 1 - value % 2**m for value in range(2**n)]
-            for method in (2, 3):
-                yield Case(method, n, m, top, top, top, 2**m - 1, 2**m - 1, top, method - 2), table
+            for method, r3, b in ((2, top, 0), (3, top, 1), (5, 0, 0)):
+                yield Case(method, n, m, top, top, top, 2**m - 1, 2**m - 1, r3, b), table
 
 
 # It is accepted, and the log says what it said before.
 def widths():
     for case, table in widest_cases():
         name = f"widths {case.n} and {case.m}, method {case.method}"
-        yield name, model.plain_call(case, table, [0] * 2**case.n)[:2], (0, table[-1])
-        _, share, count, _, log = model.logged_call(case, table, [0] * 2**case.n, lent_log(2400))
+        scratch = [0] * scratch_length(case.method, case.n)
+        yield name, model.plain_call(case, table, scratch)[:2], (0, table[-1])
+        _, share, count, _, log = model.logged_call(case, table, scratch, lent_log(2400))
         yield f"{name}, logged", (share, log[count:]), (table[-1], lent_log(2400)[log_length(case.method, case.n) :])
         yield from says_the_same(name, log[:count], old_log(case, table))
 
 
-def counts():
-    yield "choices of method 2", len(set(model.choices(2, 2, 1, 0))), 2 ** (3 * 2 + 2 * 1)
-    yield "choices of method 3", len(set(model.choices(3, 2, 1, 0))), 2 * 2 ** (3 * 2 + 2 * 1)
-    for method in (2, 3):
-        yield f"secrets of method {method}", {case.x0 ^ case.r1 ^ case.r2 for case in model.choices(method, 2, 1, 2)}, {2}
-        yield f"cases of method {method}", {case[:3] for case in model.choices(method, 2, 1, 2)}, {(method, 2, 1)}
-    yield "a = 0 and x0", model.pair_counts([1, 0], 2, 1, 1, 0, 8, 0), {(0, 0): 16, (0, 1): 16}
-    yield "one position twice", model.pair_counts([1, 0], 2, 1, 1, 0, 1, 1), {(0, 0): 16, (1, 1): 16}
-    for secret in range(4):
-        yield f"values above 1 at {secret}", model.pair_counts(TABLE_A, 2, 2, 2, secret, 0, 33)[3, 2], 64
-
-
-# What is counted is what the entries of the logged calls say, one call for each choice.
-def counted_entries():
-    for method, (n, m, table) in itertools.product((2, 3), ((1, 1, [1, 0]), (1, 2, [0, 3]), (2, 1, [0, 1, 1, 0]))):
-        for secret in range(2**n):
-            calls = (model.logged_call(case, table, [0] * 2**n, lent_log(46)) for case in model.choices(method, n, m, secret))
-            logs = [log[:count] for _, _, count, _, log in calls]
-            shown = [list(column) for column in model.shown_values(table, method, n, m, secret)]
-            yield f"method {method}, {table} at {secret}", shown, [[entry % 65536 for entry in column] for column in zip(*logs, strict=True)]
-
-
 # The quick ones come first.
-GROUPS = (
-    packing,
-    lengths,
-    clearing,
-    neighbours,
-    refusals,
-    widths,
-    counts,
-    counted_entries,
-    bench_sheet,
-    dirty_bench_calls,
-    dirty_places,
-    scratches,
-    answers,
-    repeats,
-)
+GROUPS = (packing, lengths, clearing, neighbours, calls_by_5, refusals, widths, bench_sheet, dirty_bench_calls, dirty_places)

@@ -2,18 +2,19 @@
 # should say.
 import itertools
 import random
-from collections import Counter
 
 import chain
 import model
 from chain import Second
-from check_calls import P2, P3, TOP, faults, fine_call, lent_log, log_length, old_log, says_the_same, whole_log
+from check_calls import faults, fine_call
 from check_counts import TABLES
-from document import TABLE_A
+from check_methods import P1_BY_5, P1_BY_5_LOG, P2, P2_BY_5, P3, TOP
+from check_methods import choice_count, lent_log, log_length, old_log, says_the_same, scratch_length, whole_log
+from document import KINDS, TABLE_A
 from model import Case
-from probes import differing
 
-PAIRINGS = [(2, 2), (2, 3), (3, 2), (3, 3)]
+# Nine, the one of method 2 alone in front.
+PAIRINGS = list(itertools.product(KINDS, repeat=2))
 # The tables of the widths that the refusals are tried at: the first's n, the m that is the second's n, and the second's m all differ.
 TABLE_32, TABLE_21 = TABLES[3, 2], TABLES[2, 1]
 ONE_BIT = [[1, 0], [1, 0]]
@@ -42,12 +43,24 @@ OLD_LATER_LOG = [
     *(2049, 2304, 2816, 3073, 3328, 3585),
     *(1280, 3841),
 ]
+# The one of method 5 after P1 under method 5, as kinds and values: x0 is 1, r1 and r2 are 0 and 1.
+LATER_BY_5_LOG = [
+    *((1, 1), (2, 0), (3, 1), (4, 1), (5, 1)),
+    *((6, 0), (7, 0), (8, 1), (9, 0), (6, 1), (7, 1), (8, 0), (9, 1)),
+    *((6, 0), (10, 1), (11, 1), (12, 0), (6, 1), (10, 0), (11, 0), (12, 1)),
+    *((1, 1), (13, 1)),
+]
+
+
+# Scratch of zeros for a call, with a byte more than it needs.
+def zeros_for(call):
+    return [0] * (scratch_length(call.method, call.n) + 1)
 
 
 # A chained call on scratches of zeros and logs of entries as large as can be, with an entry more than each call needs.
 def called(first, second, tables):
-    scratches = [[0] * (2**call.n + 1) for call in (first, second)]
-    return chain.chained_call(first, second, tables, scratches, [[TOP] * (log_length(call.method, call.n) + 1) for call in (first, second)])
+    logs = [[TOP] * (log_length(call.method, call.n) + 1) for call in (first, second)]
+    return chain.chained_call(first, second, tables, [zeros_for(first), zeros_for(second)], logs)
 
 
 # Worked by hand, + for an exclusive or. P1's answer is 1, its output masks are 0 and 1, so the second looks up 1 + 0 + 1 = 0 and finds 1.
@@ -68,16 +81,38 @@ def figures():
     yield "P3 and method 3", called(P3, after_p3, tables)[:6], (0, 0, 46, 46, [0, 0, 1, 0, 0], [0, 0, 1, 0, 0])
 
 
+# Worked by hand as above. Under method 5 P2 and P3 answer the same, and what follows has r1 = 3, r2 = 0: byte c of its first half is
+# T[c + 3] + 1, that of its second half the same, as s2 is 0.
+def figures_by_5():
+    tables, after_p2 = [TABLE_A, TABLE_21], Second(2, 2, 1, s1=1, s2=0, r3=2, b=0)
+    left_5, left_later = [3, 1, 2, 0, 2, 0, 3, 1, 0], [1, 0, 0, 1, 1, 0, 0, 1, 0]
+    by_5 = after_p2._replace(method=5, r3=0)
+    yield "P2 by 5 and method 2", called(P2_BY_5, after_p2, tables)[:6], (0, 0, 39, 34, left_5, [1, 0, 0, 1, 0])
+    after_p3 = after_p2._replace(method=3, b=1)
+    yield "P2 by 5 and method 3", called(P2_BY_5, after_p3, tables)[:6], (0, 0, 39, 46, left_5, [0, 0, 1, 0, 0])
+    yield "P2 and method 5", called(P2, by_5, tables)[:6], (0, 0, 34, 39, [3, 1, 2, 0, 0], left_later)
+    yield "P3 and method 5", called(P3, by_5, tables)[:6], (0, 0, 46, 39, [0, 0, 1, 0, 0], left_later)
+    yield "P2 by 5 and method 5", called(P2_BY_5, by_5, tables)[:6], (0, 0, 39, 39, left_5, left_later)
+    left = called(P1_BY_5, Second(5, 1, 1, s1=1, s2=1, r3=0, b=0), ONE_BIT)
+    logs = [[kind * 65536 + value for kind, value in pairs] + [TOP] for pairs in (P1_BY_5_LOG, LATER_BY_5_LOG)]
+    yield "P1 by 5 and method 5", left, (0, 1, 23, 23, [0, 1, 1, 0, 0], [0, 1, 0, 1, 0], *logs)
+    for r3, b, refusal in ((1, 0, 12), (3, 0, 12), (4, 0, 10), (4, 1, 10), (0, 1, 12)):
+        wanted = refusal, 0, 0, 0, [0] * 9, [0] * 9
+        yield f"first's r3 = {r3}, b = {b}", called(P2_BY_5._replace(r3=r3, b=b), by_5, tables)[:6], wanted
+        yield f"second's r3 = {r3}, b = {b}", called(P2_BY_5, by_5._replace(r3=r3, b=b), tables)[:6], wanted
+
+
 # Entries as large as can be, in another order. Its values are a coset.
 def mixed_table(n, m, factor):
     return [2**m - 1 - place * factor % 2 ** min(n, m) for place in range(2**n)]
 
 
 # Accepted chains of all pairings: an input, a choice of masks for it, and the tables. At widths of 1 it is every choice, and where all
-# widths differ it is some. b has no bits under method 2, and one under method 3.
+# widths differ it is some. r3 has no bits under method 5, and b has one under method 3 alone.
 def accepted_chains():
     chance = random.Random(1)
     below = lambda width: chance.randrange(2**width)
+    own = lambda method, n: (below(0 if method == 5 else n), below(1 if method == 3 else 0))
     for methods in PAIRINGS:
         for secret in (0, 1):
             seconds = list(chain.second_choices(methods[1], 1, 1))
@@ -85,8 +120,8 @@ def accepted_chains():
                 yield secret, first, second, ONE_BIT
         for n, m, last in [(3, 2, 1)] * 100 + [(8, 5, 3), (3, 4, 6), (1, 8, 8)]:
             secret, r1, r2 = below(n), below(n), below(n)
-            first = Case(methods[0], n, m, secret ^ r1 ^ r2, r1, r2, below(m), below(m), below(n), below(methods[0] - 2))
-            second = Second(methods[1], m, last, below(last), below(last), below(m), below(methods[1] - 2))
+            first = Case(methods[0], n, m, secret ^ r1 ^ r2, r1, r2, below(m), below(m), *own(methods[0], n))
+            second = Second(methods[1], m, last, below(last), below(last), *own(methods[1], m))
             tables = mixed_table(n, m, 3), mixed_table(m, last, 5)
             yield secret, first, second, (TABLE_32, TABLE_21) if m == 2 else tables
 
@@ -105,12 +140,12 @@ def answers():
         yield (name, "logs"), (log, second_log), (logs[0] + [TOP], logs[1] + [TOP])
         yield from says_the_same((name, "first"), log[:-1], old_log(first, tables[0]))
         yield from says_the_same((name, "second"), second_log[:-1], old_log(case, tables[1]))
-        left = [model.plain_call(call, table, [0] * (2**call.n + 1))[3] for call, table in zip((first, case), tables)]
+        left = [model.plain_call(call, table, zeros_for(call))[3] for call, table in zip((first, case), tables)]
         yield (name, "scratches"), [scratch, second_scratch], left
 
 
-# A chain that is accepted in all pairings, and its faults in the order of the checks: the refusal, what is faulty and what stands there.
-# A place is a call, 0 or 1, and a name. x0, r1 and r2 are no places of the second.
+# A chain that is accepted, and its faults in the order of the checks: the refusal, what is faulty and what stands there. Both go by the
+# methods. A place is a call, 0 or 1, and a name. x0, r1 and r2 are no places of the second.
 def places(call, named):
     return {(call, name): value for name, value in named.items() if call == 0 or name not in ("x0", "r1", "r2")}
 
@@ -119,8 +154,10 @@ def faults_of(call, known):
     return [(refusal, changed) for refusal, name, value in known if (changed := places(call, {name: value}))]
 
 
-FINE = {**places(0, fine_call(3, 2, TABLE_32)), **places(1, fine_call(2, 1, TABLE_21))}
-FIRST, SECOND = faults_of(0, faults(3, 2, TABLE_32)), faults_of(1, faults(2, 1, TABLE_21))
+def fine(methods):
+    return {**places(0, fine_call(methods[0], 3, 2, TABLE_32)), **places(1, fine_call(methods[1], 2, 1, TABLE_21))}
+
+
 # Fine tables for which the first's m is one less or one more than the second's n, or as large as can be. No other fault makes the two
 # equal.
 UNEQUAL = [
@@ -129,13 +166,13 @@ UNEQUAL = [
     (18, places(0, dict(m=8, table=TABLE_32))),
     (18, places(1, dict(n=1, table=[1, 0]))),
 ]
-FAULTS = [
-    *(fault for fault in FIRST if fault[0] <= 7),
-    *(fault for fault in SECOND if fault[0] <= 7),
-    *UNEQUAL,
-    *(fault for fault in FIRST if fault[0] > 7),
-    *(fault for fault in SECOND if fault[0] > 7),
-]
+
+
+def chain_faults(methods):
+    first, second = faults_of(0, faults(methods[0], 3, 2, TABLE_32)), faults_of(1, faults(methods[1], 2, 1, TABLE_21))
+    of_tables = [[fault for fault in known if fault[0] <= 7] for known in (first, second)]
+    others = [[fault for fault in known if fault[0] > 7] for known in (first, second)]
+    return [*of_tables[0], *of_tables[1], *UNEQUAL, *others[0], *others[1]]
 
 
 # The arguments that the places make.
@@ -151,53 +188,57 @@ def refused(call, refusal):
     yield (call, "refused"), chain.chained_call(*arguments(call)), (refusal, 0, 0, 0, *scratches, *logs)
 
 
-def fine(methods):
-    return {**FINE, (0, "method"): methods[0], (1, "method"): methods[1]}
-
-
-# Each fault in all pairings, and any two in different places: the one that stands first in the order is returned.
+# Each fault in all pairings, and, a ninth of them in each, any two in different places: the one that stands first in the order is returned.
 def refusals():
-    for at, (refusal, changed) in enumerate(FAULTS):
-        for methods in PAIRINGS:
+    for turn, methods in enumerate(PAIRINGS):
+        known = chain_faults(methods)
+        for at, (refusal, changed) in enumerate(known):
             yield from refused({**fine(methods), **changed}, refusal)
-        for number, (other, others) in enumerate(FAULTS[at:]):
-            if not changed.keys() & others.keys() and (refusal, other) != (18, 18):
-                yield from refused({**fine(PAIRINGS[number % 4]), **changed, **others}, refusal)
+            for other, others in known[at + turn :: 9]:
+                if not changed.keys() & others.keys() and (refusal, other) != (18, 18):
+                    yield from refused({**fine(methods), **changed, **others}, refusal)
 
 
 # What stands just inside, each call's numbers and buffers in turn, is accepted; b = 1 under method 3 alone.
 def neighbours():
     for methods in PAIRINGS:
         for call, (n, m) in enumerate([(3, 2), (2, 1)]):
-            inside = [("scratch", [0] * 2**n), ("scratch", [0] * 2**n + [255, 1]), ("log", log_length(methods[call], n))]
-            inside += [(name, value) for name in ("x0", "r1", "r2", "r3") for value in (0, 2**n - 1)]
+            needed = [0] * scratch_length(methods[call], n)
+            inside = [("scratch", needed), ("scratch", [*needed, 255, 1]), ("log", log_length(methods[call], n))]
+            inside += [(name, value) for name in ("x0", "r1", "r2") for value in (0, 2**n - 1)]
+            inside += [("r3", value) for value in ((0,) if methods[call] == 5 else (0, 2**n - 1))]
             inside += [(name, value) for name in ("s1", "s2") for value in (0, 2**m - 1)]
             for name, value in inside:
                 got = chain.chained_call(*arguments({**fine(methods), **places(call, {name: value})}))
                 yield f"{name} {value} of call {call}, methods {methods}", got[0], 0
             yield from refused({**fine(methods), (call, "log"): log_length(methods[call], n) - 1}, 14)
             got = chain.chained_call(*arguments({**fine(methods), (call, "b"): 1}))
-            yield f"b = 1 of call {call}, methods {methods}", got[0], {2: 12, 3: 0}[methods[call]]
+            yield f"b = 1 of call {call}, methods {methods}", got[0], 0 if methods[call] == 3 else 12
 
 
 # At every triple of widths: accepted where the first's m is the second's n, and 18 where it is another.
 def widths():
     for n, m, second_n in itertools.product(range(1, 9), repeat=3):
-        methods, last = PAIRINGS[(n + m + second_n) % 4], (n + m) % 8 + 1
+        methods, last = PAIRINGS[(n + m + second_n) % 9], (n + m) % 8 + 1
         first, second = Case(methods[0], n, m, 0, 0, 0, 0, 0, 0, 0), Second(methods[1], second_n, last, 0, 0, 0, 0)
         tables = [place % 2**m for place in range(2**n)], [place % 2**last for place in range(2**second_n)]
         yield f"widths {n}, {m} and {second_n}", called(first, second, tables)[:2], (0 if m == second_n else 18, 0)
+
+
+# How many choices the second call has: its r1 and r2, of 2^n values each, are the first's.
+def own_choices(method, n, m):
+    return choice_count(method, n, m) // 4**n
 
 
 # All masks stand in a log, so each choice shows something else, and no choice is left out.
 def choices():
     for methods in PAIRINGS:
         seconds = list(chain.second_choices(methods[1], 2, 1))
-        yield f"choices of the second, method {methods[1]}", len(set(seconds)), 16 * (methods[1] - 1)
+        yield f"choices of the second, method {methods[1]}", len(set(seconds)), own_choices(methods[1], 2, 1)
         yield f"masks that are too large, method {methods[1]}", [own for own in seconds if own.s1 > 1 or own.s2 > 1 or own.r3 > 3], []
         for secret in (0, 1):
             shown = chain.shown_values(methods, (1, 1, 1), ONE_BIT, secret)
-            size = log_length(methods[0], 1) + log_length(methods[1], 1), 256 * (methods[0] - 1) * (methods[1] - 1)
+            size = log_length(methods[0], 1) + log_length(methods[1], 1), choice_count(methods[0], 1, 1) * own_choices(methods[1], 1, 1)
             yield f"choices of methods {methods} at {secret}", (len(shown), len(set(zip(*shown)))), size
             yield f"inputs of methods {methods} at {secret}", {x0 ^ r1 ^ r2 for x0, r1, r2 in zip(*shown[:3])}, {secret}
 
@@ -213,53 +254,5 @@ def counted_entries():
             yield f"entries of methods {methods} at {secret}", list(map(list, shown)), list(map(list, zip(*values, strict=True)))
 
 
-# Widths, tables, inputs and pairings that are counted. The table of three bits is their majority, which is not linear. Fit tables that are
-# not balanced stand in the first place, in the second, and in both.
-COUNTED = [
-    ((1, 1, 1), ONE_BIT, (0, 1), PAIRINGS),
-    ((1, 2, 1), [[0, 3], TABLE_21], (0, 1), PAIRINGS),
-    ((1, 2, 2), [[1, 2], [2, 2, 1, 1]], (0, 1), PAIRINGS),
-    ((1, 1, 2), [[1, 0], [3, 1]], (0, 1), PAIRINGS),
-    ((2, 1, 1), [[1, 1, 1, 1], [0, 0]], (0, 3), PAIRINGS[:1]),
-    ((2, 1, 1), [TABLE_21, [0, 1]], (0, 1, 2, 3), PAIRINGS),
-    ((2, 2, 1), [TABLE_A, TABLE_21], (0, 3), PAIRINGS),
-    ((3, 1, 1), [[0, 0, 0, 1, 0, 1, 1, 1], [1, 0]], (0, 7), PAIRINGS[:1]),
-]
-
-
-def counts():
-    for widths, tables, secrets, pairings in COUNTED:
-        for methods in pairings:
-            shown = chain.shown_values(methods, widths, tables, 0)
-            for secret in secrets[1:]:
-                other = chain.shown_values(methods, widths, tables, secret)
-                yield f"widths {widths}, methods {methods}, inputs 0 and {secret}", list(differing(shown, other)), []
-
-
-def pair_counts(shown, i, j):
-    return Counter(zip(shown[i], shown[j]))
-
-
-# What is shown where the second call's output masks are the first's. At widths of 1 under method 2 these are positions 3 and 4 of each log.
-def masks_twice(secret):
-    shown = chain.shown_values((2, 2), (1, 1, 1), ONE_BIT, secret)
-    twice = [masks[:2] == masks[2:] for masks in zip(shown[3], shown[4], shown[22 + 3], shown[22 + 4])]
-    return [bytes(itertools.compress(column, twice)) for column in shown]
-
-
-# Worked by hand. Position 12 of the second log is T[x0] + s1: with the first's output masks and these tables it is x + s2. A table that is
-# not fit shows in a chain what it shows alone, as often again as the other masks have choices.
-def leaks():
-    for secret in (0, 1):
-        yield f"masks twice at {secret}", pair_counts(masks_twice(secret), 4, 22 + 12), {(0, secret): 32, (1, 1 - secret): 32}
-    yield "masks twice", (4, 22 + 12) in differing(masks_twice(0), masks_twice(1)), True
-    unfit = [0, 0, 0, 1]
-    for widths, tables, at, times in (((2, 1, 1), [unfit, [1, 0]], 0, 8), ((2, 2, 1), [[0, 1, 2, 3], unfit], 34, 64)):
-        shown = {secret: chain.shown_values((2, 2), widths, tables, secret) for secret in (0, 3)}
-        for secret, figure in ((0, 96), (3, 32)):
-            yield f"{tables} at {secret}", pair_counts(shown[secret], at + 13, at + 33)[0, 0], figure * times
-        yield f"{tables}", (at + 13, at + 33) in differing(*shown.values()), True
-
-
 # The quick ones come first.
-GROUPS = (figures, neighbours, choices, counted_entries, widths, refusals, answers, leaks, counts)
+GROUPS = (figures, figures_by_5, neighbours, choices, counted_entries, widths, refusals, answers)

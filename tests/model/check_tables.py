@@ -4,7 +4,7 @@ import random
 
 import model
 import tables
-from document import TABLE_A
+from document import KINDS, TABLE_A
 
 # How many tables of so small widths are fit, by hand. At n = 1 all are. At n = 2 it is one value, two values twice each, or four that make
 # a coset: at m = 3 these are 8 + 28 * 6 + 14 * 24.
@@ -23,11 +23,11 @@ def named():
         *((7, 2, m, [0, 1, 2, 4]) for m in range(3, 9)),
         (6, 2, 2, [0, 1, 2, 4]),
         *((0, 2, 3, table) for table in ([1, 2, 4, 7], [0, 7, 7, 0], [6, 6, 6, 6], [0, 3, 5, 6])),
-        *((7, 2, 3, table) for table in ([1, 2, 4, 6], [0, 7, 7, 7], [0, 0, 3, 5])),
+        *((7, 2, 3, table) for table in ([1, 2, 4, 6], [0, 7, 7, 7], [0, 0, 3, 5], [0, 1, 2, 7])),
         *((7, 3, 4, table) for table in ([0, 1, 2, 3, 4, 8, 12, 0], [0, 1, 2, 3, 4, 8, 5, 9], [0, 1, 2, 3, 0, 0, 1, 1])),
     ]
     for refusal, n, m, table in known:
-        for method in (2, 3):
+        for method in KINDS:
             yield f"n = {n}, m = {m}, table {table}, method {method}", model.table_refusal(method, n, m, table), refusal
 
 

@@ -9,10 +9,10 @@ from collections import namedtuple
 
 import counts
 import tables
+from call_records import DIRTY_BYTE, FILLED_ENTRY, LONGEST_LOG, LONGEST_SCRATCH, TOP, checksum, with_entry
 from count_sheets import P12_PAIR
 from counts import ProbePair
-from logged_cases import DIRTY_BYTE, FILLED_ENTRY, LONGEST_LOG, LONGEST_SCRATCH, TOP, checksum, with_entry
-from model import log_length
+from model import METHODS, log_length, scratch_length
 
 # What the program fills the sheet with, and the most of it that it can lend.
 FILLED_COUNT, LONGEST_SHEET = 4042322160, 100
@@ -27,8 +27,9 @@ chance = random.Random()
 
 # A call with buffers that just suffice. Where n or m is above 3 no sheet is looked at, and a short one is lent.
 def with_buffers(pair, table):
-    width = max(pair.n, pair.m)
-    return Call(pair, table, 2**pair.n, log_length(pair.method, pair.n), 4**width if width <= 3 else 5)
+    method, n, m, *_ = pair
+    width = max(n, m)
+    return Call(pair, table, scratch_length(method, n), log_length(method, n), 4**width if width <= 3 else 5)
 
 
 def accepted(method, n, m):
@@ -46,54 +47,66 @@ def roomier(call):
     return call._replace(scratch=scratch, log=log, sheet=sheet)
 
 
+# The position of an entry with both output masks, at a = 0.
+def masked_entry(method, n):
+    return {2: 13, 3: 16, 5: 5 + 4 * 2**n + 3}[method]
+
+
+# The pair of it and the answer, which stands last: it tells a secret where a table is not fit.
+def told(method, n, m, secret):
+    return ProbePair(method, n, m, secret, masked_entry(method, n), log_length(method, n) - 1)
+
+
 # P12 of the bench sheet, the valve maker's table, and the pair that tells a secret of the tables 0, 0, 0, 1 and 0, 1, 2, 4, which are
-# refused.
+# refused; all under method 5 too.
 def bench_sheet():
     for secret in (0, 1):
-        p12 = with_buffers(P12_PAIR._replace(secret=secret), [1, 0])
-        yield from (p12, roomier(p12), with_buffers(ProbePair(2, 1, 2, secret, 13, 21), [0, 3]))
+        for p12 in (P12_PAIR._replace(secret=secret), ProbePair(5, 1, 1, secret, 0, 22)):
+            yield from (with_buffers(p12, [1, 0]), roomier(with_buffers(p12, [1, 0])))
+        yield from (with_buffers(told(method, 1, 2, secret), [0, 3]) for method in (2, 5))
     for secret in (0, 3):
         for m, table in ((1, [0, 1, 1, 0]), (1, [0, 0, 0, 1]), (3, [2, 0, 3, 1]), (3, [0, 1, 2, 4])):
-            yield with_buffers(ProbePair(2, 2, m, secret, 13, 33), table)
+            yield from (with_buffers(told(method, 2, m, secret), table) for method in (2, 5))
 
 
-# Both methods at every pair of widths: first and last positions, one twice, and others; two secrets of the same table. Position 8 always
-# shows 0, so that one count is all choices, 65536 at most. At m = 3, where a count takes longest, there are fewer pairs.
+# The methods at every pair of widths: first and last positions, one twice, and others; two secrets of the same table. Of a position that
+# shows a = 0, one count is all choices, 65536 at most. At m = 3, where a count takes longest, there are fewer pairs.
 def every_width():
-    for method in (2, 3):
+    for method in METHODS:
         for n in range(1, 4):
             for m in range(1, 4):
-                call, last = accepted(method, n, m), log_length(method, n) - 1
-                other = call.pair.secret ^ chance.randrange(1, 2**n)
+                call, last, at_0 = accepted(method, n, m), log_length(method, n) - 1, 5 if method == 5 else 8
+                entry, other = masked_entry(method, n), call.pair.secret ^ chance.randrange(1, 2**n)
                 between = [tuple(chance.randrange(1, last) for _ in range(2)) for _ in range(3)]
-                pairs = [(0, last), (8, 8), (last, last), *between, (last, 0), (7, 7), (13, last)]
+                pairs = [(0, last), (at_0, at_0), (last, last), *between, (last, 0), (7, 7), (entry, last)]
                 for first, second in pairs[:3] if m == 3 else pairs:
                     yield roomier(with_numbers(call, first=first, second=second))
-                yield from (with_numbers(call, first=13, second=last, secret=secret) for secret in (call.pair.secret, other))
+                yield from (with_numbers(call, first=entry, second=last, secret=secret) for secret in (call.pair.secret, other))
 
 
-# Every position with another one, at n = 1 and n = 2, and of the first and the last turn at n = 3.
+# Every position with another one, at n = 1 and n = 2, and of the first and the last turn at n = 3; under method 5, which has two passes,
+# all of these.
 def every_position():
-    for method, n, m in ((2, 1, 1), (3, 1, 1), (3, 1, 2), (2, 2, 1), (3, 2, 2), (2, 3, 2), (3, 3, 1)):
+    for method, n, m in ((2, 1, 1), (3, 1, 1), (5, 1, 2), (3, 1, 2), (2, 2, 1), (3, 2, 2), (5, 2, 2), (2, 3, 2), (3, 3, 1), (5, 3, 1)):
         call, length = accepted(method, n, m), log_length(method, n)
-        for first in range(length) if n < 3 else (*range(17), *range(length - 11, length)):
+        for first in range(length) if n < 3 or method == 5 else (*range(17), *range(length - 11, length)):
             yield with_numbers(call, first=first, second=chance.randrange(length))
 
 
 # All secrets of a table.
 def every_secret():
-    for method, n, m in ((3, 1, 3), (2, 2, 2), (3, 2, 1), (2, 2, 3), (2, 3, 1)):
+    for method, n, m in ((3, 1, 3), (2, 2, 2), (3, 2, 1), (5, 2, 2), (2, 2, 3), (2, 3, 1), (5, 3, 2)):
         call = accepted(method, n, m)
         yield from (with_numbers(call, secret=secret) for secret in range(2**n))
 
 
 # Numbers just inside and just outside, and wide ones.
 def numbers():
-    for method in (2, 3):
+    for method in METHODS:
         for n, m in ((1, 1), (2, 2), (3, 1)):
             call, length = roomier(accepted(method, n, m)), log_length(method, n)
             bounds = {
-                "method": (0, 1, 4),
+                "method": (0, 1, 4, 6, 261),
                 "n": (0, n + 1, 9, 33),
                 "m": (0, m, n + 1, 4, 8, 9, 33),
                 "secret": (0, 2**n - 1, 2**n),
@@ -109,19 +122,20 @@ def numbers():
 def faulty_tables():
     for n in range(1, 9):
         for m in sorted({1, n}):
-            call = accepted(2 + n % 2, n, m)._replace(sheet=5)
+            call = accepted(METHODS[n % 3], n, m)._replace(sheet=5)
             yield from (call._replace(table=table) for table in ([], call.table[:-1], call.table + [0]))
             place = chance.randrange(2**n)
             yield from (with_entry(call, place, entry) for entry in (2**m - 1 - call.table[place], min(2**m, 255), 255))
-        call = accepted(2 + n % 2, n, 8)
+        call = accepted(METHODS[n % 3], n, 8)
         yield from (call._replace(table=kind(chance, n, 8)) for kind in (tables.full, *(tables.NOT_CLOSED if n > 1 else ())))
 
 
 # Each buffer exactly long enough, one too short, empty, and longer; at n = 3 as long as the program can lend.
 def buffers():
-    for method in (2, 3):
+    for method in METHODS:
         for n, m in ((1, 2), (2, 3), (3, 2)):
             call = accepted(method, n, m)
+            yield call._replace(scratch=2**n)
             for name in ("scratch", "log", "sheet"):
                 needed = getattr(call, name)
                 yield from (call._replace(**{name: length}) for length in (0, needed - 1, needed, needed + 1))
@@ -133,7 +147,7 @@ def buffers():
 def too_wide():
     for n in range(1, 9):
         for m in range(1 if n > 3 else 4, 9):
-            call = accepted(2 + (n + m) % 2, n, m)
+            call = accepted(METHODS[(n + m) % 3], n, m)
             yield from (call, call._replace(sheet=0))
         yield from (call._replace(scratch=call.scratch - 1), call._replace(log=call.log - 1))
         yield from (with_numbers(call, secret=2**n), with_numbers(call, second=call.log), call._replace(table=call.table[1:]))
@@ -143,7 +157,7 @@ def too_wide():
 # number that is checked first is returned.
 def two_faults():
     faults = (
-        lambda call: with_numbers(call, method=chance.choice((0, 1, 4))),
+        lambda call: with_numbers(call, method=chance.choice((0, 1, 4, 6))),
         lambda call: with_numbers(call, n=chance.choice((0, 9))),
         lambda call: with_numbers(call, m=chance.choice((0, 9))),
         lambda call: call._replace(table=call.table + [0]),
@@ -156,7 +170,7 @@ def two_faults():
         lambda call: call._replace(sheet=call.sheet - 1),
     )
     for widths in [(2, 2)], [(4, 2), (2, 4)]:
-        fine = lambda: accepted(chance.choice((2, 3)), *chance.choice(widths))
+        fine = lambda: accepted(chance.choice(METHODS), *chance.choice(widths))
         for first, fault in enumerate(faults):
             yield from (other(fault(fine())) for other in faults[first:])
             yield fault(fine())._replace(scratch=0, log=0, sheet=0)

@@ -4,12 +4,13 @@ import random
 import tables
 from counts import ProbePair
 from document import TABLE_A
-from model import log_length
+from model import METHODS, log_length
 from sheets import damaged, mutated_text, sheet as probe_sheet
 
 P12_PAIR = ProbePair(method=2, n=1, m=1, secret=0, first=0, second=21)
 SAMPLE = probe_sheet(P12_PAIR, [1, 0])
 PAIR = ProbePair(method=3, n=2, m=2, secret=3, first=16, second=45)
+PAIR_BY_5 = ProbePair(method=5, n=2, m=2, secret=3, first=24, second=38)
 
 
 # A pair of positions of an accepted count, and its table.
@@ -21,7 +22,7 @@ def accepted_sheet(chance, method, n, m):
 # Inputs whose numbers meet each refusal, with neighbours that do not.
 def refused():
     changes = {
-        "method": (0, 1, 2, 4, 5, 255),
+        "method": (0, 1, 2, 4, 5, 6, 255),
         "n": (0, 1, 3, 8, 9, 255),
         "m": (0, 1, 3, 4, 8, 9, 255),
         "secret": (0, 4, 255),
@@ -30,11 +31,13 @@ def refused():
     }
     for name, values in changes.items():
         yield from (probe_sheet(PAIR._replace(**{name: value}), TABLE_A) for value in values)
+    for name in ("first", "second"):
+        yield from (probe_sheet(PAIR_BY_5._replace(**{name: value}), TABLE_A) for value in (0, 38, 39))
     for length in (0, 1, 3, 5, 255, 256):
         yield probe_sheet(PAIR, (TABLE_A * 64)[:length])
     for entry in (3, 4, 255):
         yield probe_sheet(PAIR, [entry, 0, 2, 1])
-    yield probe_sheet(PAIR._replace(m=1), [0, 0, 0, 1])
+    yield from (probe_sheet(pair._replace(m=1), [0, 0, 0, 1]) for pair in (PAIR, PAIR_BY_5))
     yield from (probe_sheet(PAIR._replace(m=3), table) for table in ([0, 1, 2, 4], [1, 2, 4, 7], [6, 6, 6, 6]))
     yield from (probe_sheet(P12_PAIR._replace(m=m), [0, 3]) for m in (1, 2, 3, 4))
     yield probe_sheet(PAIR._replace(method=4, n=9), TABLE_A)
@@ -45,7 +48,8 @@ def refused():
 def too_wide(chance):
     for n in range(1, 9):
         least = 1 if n > 3 else 4
-        for method, m, secret, first in ((2, least, 0, 0), (3, 8, 2**n - 1, 255), (2, least + 2, 2**n % 256, 9), (3, 4, 2**n - 1, 9)):
+        known = (2, least, 0, 0), (3, 8, 2**n - 1, 255), (2, least + 2, 2**n % 256, 9), (3, 4, 2**n - 1, 9), (5, 8, 2**n - 1, 9)
+        for method, m, secret, first in known:
             yield probe_sheet(ProbePair(method, n, m, secret, first, 9), tables.any_fit(chance, n, m))
 
 
@@ -53,7 +57,8 @@ def too_wide(chance):
 def all_sheets():
     chance = random.Random(11)
     yield from (SAMPLE, probe_sheet(P12_PAIR._replace(secret=1), [1, 0]), probe_sheet(PAIR, TABLE_A), b"", probe_sheet(PAIR, []))
-    for method in (2, 3):
+    yield probe_sheet(PAIR_BY_5, TABLE_A)
+    for method in METHODS:
         for n in range(1, 4):
             for m in range(1, 4):
                 yield from (accepted_sheet(chance, method, n, m) for _ in range(2))
@@ -68,4 +73,4 @@ def all_sheets():
 
 # Widths that the model counts soon.
 def mutated(chance):
-    return mutated_text(chance, accepted_sheet(chance, chance.choice((2, 3)), *chance.choice(((1, 1), (1, 2), (2, 1), (2, 2)))))
+    return mutated_text(chance, accepted_sheet(chance, chance.choice(METHODS), *chance.choice(((1, 1), (1, 2), (2, 1), (2, 2)))))

@@ -4,13 +4,13 @@ import functools
 from collections import Counter, namedtuple
 
 import model
-from model import log_length
+from model import log_length, scratch_length
 
 # The numbers of a count, in the order of the print's first line.
 ProbePair = namedtuple("ProbePair", "method n m secret first second")
 
 # The runs' values are kept: most counts differ from an earlier one in their positions alone.
-shown_values = functools.lru_cache(maxsize=64)(model.shown_values)
+shown_values = functools.lru_cache(maxsize=128)(model.shown_values)
 
 
 # k: every value that a log shows is below 2^k.
@@ -24,7 +24,7 @@ def count_refusal(pair, table, scratch, log, sheet):
         return refusal
     if not model.fits(pair.n, [pair.secret]):
         return 10
-    if len(scratch) < 2**pair.n:
+    if len(scratch) < scratch_length(pair.method, pair.n):
         return 13
     length = log_length(pair.method, pair.n)
     if len(log) < length:
@@ -56,7 +56,7 @@ def count_sheet(pair, table, scratch, log, sheet):
     refusal = count_refusal(pair, table, scratch, log, sheet)
     if refusal:
         return refusal, list(scratch), list(log), list(sheet)
-    scratch = in_front([0] * 2**pair.n, scratch)
+    scratch = in_front([0] * scratch_length(pair.method, pair.n), scratch)
     log = in_front([0] * log_length(pair.method, pair.n), log)
     return 0, scratch, log, in_front(pair_sheet(pair, table), sheet)
 
@@ -67,7 +67,7 @@ def counts(text):
     if read is None:
         return model.print_line(1)
     pair, table = read
-    refusal, _, _, sheet = count_sheet(pair, table, [0] * 256, [0] * log_length(3, 8), [0] * 64)
+    refusal, _, _, sheet = count_sheet(pair, table, [0] * scratch_length(5, 8), [0] * log_length(3, 8), [0] * 64)
     if refusal:
         return model.print_line(refusal)
     size = 2 ** value_width(pair)

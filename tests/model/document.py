@@ -33,14 +33,15 @@ SAMPLE_OUTPUT = b"""\
 """
 TABLE_A = [2, 0, 3, 1]
 
-# The kinds of a log in order, for each method: the head, what each number a adds, the end.
+# The kinds of a log in order, for each method: the head, what each number a adds in a pass over them, for each pass, the end.
 KINDS = {
-    2: ([10, 1, 2, 3, 4, 5, 6, 7], [8, 9, 11, 12, 13, 14], [5, 15]),
-    3: ([11, 1, 2, 3, 4, 6, 5, 18], [7, 8, 9, 17, 10, 12, 13, 14, 15], [6, 16]),
+    2: ([10, 1, 2, 3, 4, 5, 6, 7], [[8, 9, 11, 12, 13, 14]], [5, 15]),
+    3: ([11, 1, 2, 3, 4, 6, 5, 18], [[7, 8, 9, 17, 10, 12, 13, 14, 15]], [6, 16]),
+    5: ([1, 2, 3, 4, 5], [[6, 7, 8, 9], [6, 10, 11, 12]], [1, 13]),
 }
 
-# The log's length, for each method and n.
-LENGTHS = {2: {1: 22, 2: 34, 8: 1546}, 3: {1: 28, 2: 46, 8: 2314}}
+# The log's length, for each method and n. For method 5 it is printed as 7 + 8Q alone, and Q is 2, 4 and 256.
+LENGTHS = {2: {1: 22, 2: 34, 8: 1546}, 3: {1: 28, 2: 46, 8: 2314}, 5: {1: 23, 2: 39, 8: 2055}}
 
 # The kinds of a log of choosing a half, in order: rows of the source's Table 3, which has no row 24.
 SELECTION_KINDS = [

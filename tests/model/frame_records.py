@@ -9,7 +9,7 @@ from collections import namedtuple
 
 import fips_197
 import frame
-from logged_cases import checksum
+from call_records import checksum
 from runs import in_turn, placed, spreads
 
 RANDOM_LENGTH, SCRATCH_LENGTH = 632, 256

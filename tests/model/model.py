@@ -1,10 +1,13 @@
 # The calls, the logs, the counts and the bench print in plain Python, written from the requirements alone, without looking at the code.
+# What a call does once it is accepted is in methods.py.
 # docs/REFERENCE.md says the same in words.
 # It shares nothing with the proved code, so that a test which compares the two can find a fault in either.
 # Numbers are integers from 0 on; a table, a scratch buffer and rows are lists of bytes; a log is a list of 32-bit entries.
 import itertools
 import re
 from collections import Counter, namedtuple
+
+import methods
 
 # The numbers of a logged or plain call, in the order of the bench print's case line.
 Case = namedtuple("Case", "method n m x0 r1 r2 s1 s2 r3 b")
@@ -72,6 +75,26 @@ def linear_layer(input_width, output_width, rows, constant, share1, share2, shar
     return 0, mapped(rows, share1) ^ constant, mapped(rows, share2), mapped(rows, share3)
 
 
+# What goes by the method.
+
+METHODS = (2, 3, 5)
+
+
+# How many bytes of scratch it needs: it looks at no others.
+def scratch_length(method, n):
+    return {2: 1, 3: 1, 5: 2}[method] * 2**n
+
+
+def log_length(method, n):
+    return {2: 10 + 6 * 2**n, 3: 10 + 9 * 2**n, 5: 7 + 8 * 2**n}[method]
+
+
+# What r3 and b may be: one that it does not draw is 0.
+def drawn(method, n):
+    inputs, bits, zero = range(2**n), range(2), range(1)
+    return {2: (inputs, zero), 3: (inputs, bits), 5: (zero, zero)}[method]
+
+
 # What a logged or plain call refuses.
 
 
@@ -85,7 +108,7 @@ def is_fit(table):
 
 
 def table_refusal(method, n, m, table):
-    if method not in (2, 3):
+    if method not in METHODS:
         return 2
     if not 1 <= n <= 8:
         return 3
@@ -105,25 +128,27 @@ def mask_refusal(case):
         return 10
     if not fits(case.m, [case.s1, case.s2]):
         return 11
-    if case.b > {2: 0, 3: 1}[case.method]:
+    r3s, bits = drawn(case.method, case.n)
+    if case.r3 not in r3s or case.b not in bits:
         return 12
     return 0
 
 
+def is_clean(scratch):
+    return all(byte == 0 for byte in scratch)
+
+
 def scratch_refusal(case, scratch):
-    if len(scratch) < 2**case.n:
+    needed = scratch_length(case.method, case.n)
+    if len(scratch) < needed:
         return 13
-    if any(byte != 0 for byte in scratch[: 2**case.n]):
+    if not is_clean(scratch[:needed]):
         return 19
     return 0
 
 
 def plain_refusal(case, table, scratch):
     return table_refusal(case.method, case.n, case.m, table) or mask_refusal(case) or scratch_refusal(case, scratch)
-
-
-def log_length(method, n):
-    return 10 + {2: 6, 3: 9}[method] * 2**n
 
 
 # What a logged call refuses once its table has passed.
@@ -155,45 +180,9 @@ def value_of(entry):
     return entry % 65536
 
 
-# The two methods. Each takes an accepted case and hands back the answer, the whole scratch and the log as (kind, value) pairs.
-
-
-def run_method_2(case, table, scratch):
-    _, n, _, x0, r1, r2, s1, s2, r3, _ = case
-    scratch = list(scratch)
-    mixed = r1 ^ r3
-    r_prime = mixed ^ r2
-    log = [(10, x0), (1, r1), (2, r2), (3, s1), (4, s2), (5, r3), (6, mixed), (7, r_prime)]
-    for a in range(2**n):
-        place = a ^ r_prime
-        entry = table[x0 ^ a]
-        scratch[place] = entry ^ s1 ^ s2
-        log += [(8, a), (9, place), (11, x0 ^ a), (12, entry), (13, entry ^ s1), (14, entry ^ s1 ^ s2)]
-    answer = scratch[r3]
-    log += [(5, r3), (15, answer)]
-    return answer, scratch, log
-
-
-def run_method_3(case, table, scratch):
-    _, n, _, x0, r1, r2, s1, s2, r3, b = case
-    scratch = [1 - b] * 2**n + list(scratch[2**n :])
-    scratch[r3] = b
-    registers = [0, 0]
-    log = [(11, x0), (1, r1), (2, r2), (3, s1), (4, s2), (6, b), (5, r3), (18, 1 - b)]
-    for a in range(2**n):
-        place = r1 ^ a ^ r3 ^ r2
-        cmp = scratch[place]
-        entry = table[x0 ^ a]
-        registers[cmp] = entry ^ s1 ^ s2
-        log += [(7, a), (8, r1 ^ a), (9, r1 ^ a ^ r3), (17, place), (10, cmp)]
-        log += [(12, x0 ^ a), (13, entry), (14, entry ^ s1), (15, entry ^ s1 ^ s2)]
-    answer = registers[b]
-    log += [(6, b), (16, answer)]
-    return answer, scratch, log
-
-
 def run(case, table, scratch):
-    return {2: run_method_2, 3: run_method_3}[case.method](case, table, scratch)
+    by_method = {2: methods.run_method_2, 3: methods.run_method_3, 5: methods.run_method_5}
+    return by_method[case.method](case, table, scratch)
 
 
 # The refusal, the answer share, the count of entries, and scratch and log as the call leaves them.
@@ -232,14 +221,15 @@ def clear(buffer):
 # Every choice of masks for an input, as the case that it makes.
 def choices(method, n, m, secret):
     inputs, outputs = range(2**n), range(2**m)
-    bits = {2: [0], 3: [0, 1]}[method]
-    for r1, r2, r3, s1, s2, b in itertools.product(inputs, inputs, inputs, outputs, outputs, bits):
+    r3s, bits = drawn(method, n)
+    for r1, r2, r3, s1, s2, b in itertools.product(inputs, inputs, r3s, outputs, outputs, bits):
         yield Case(method, n, m, secret ^ r1 ^ r2, r1, r2, s1, s2, r3, b)
 
 
 # The values that each position of the log shows, one for each choice of masks. The table need not be one that a call accepts.
 def shown_values(table, method, n, m, secret):
-    logs = (run(case, table, [0] * 2**n)[2] for case in choices(method, n, m, secret))
+    scratch = [0] * scratch_length(method, n)
+    logs = (run(case, table, scratch)[2] for case in choices(method, n, m, secret))
     values = (bytes(value for _, value in log) for log in logs)
     return [bytes(column) for column in zip(*values)]
 
@@ -288,7 +278,7 @@ def bench(text):
     if sheet is None:
         return print_line(1)
     case, table = sheet
-    refusal, share, count, _, log = logged_call(case, table, [0] * 256, [0] * log_length(3, 8))
+    refusal, share, count, _, log = logged_call(case, table, [0] * scratch_length(5, 8), [0] * log_length(3, 8))
     if refusal:
         return print_line(refusal)
     lines = [print_line(at, kind_of(log[at]), value_of(log[at])) for at in range(count)]

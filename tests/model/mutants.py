@@ -7,10 +7,12 @@ from pathlib import Path
 import chain
 import chain_cases
 import check
+import check_leaks
 import check_selection
 import counts
 import frame
 import logged_cases
+import methods
 import model
 import sbox
 import screening
@@ -20,9 +22,12 @@ from chain_mutants import CHAIN
 from count_mutants import COUNTS
 from edits import edited
 from frame_mutants import FRAME
+from method_mutants import BY_METHOD, LEAKING, METHODS
 from model_mutants import MODEL
+from print_mutants import PRINT
 from screening_mutants import SCREENING
 from selection_mutants import ALONE, SELECTION
+from small_mutants import SMALL
 
 # For each function, the edits of its text: a piece of it, and what takes its place.
 SBOX = {
@@ -36,7 +41,11 @@ SBOX = {
 # A program's cases, and the functions that its answers go through: each wrong edit of these changes an answer, so no case can go unseen
 # that alone notices one.
 CASES = {
-    "model": (logged_cases, ("is_fit", "table_refusal", "logged_call")),
+    "methods": (logged_cases, ("recomputed", "run_method_2", "run_method_3", "run_method_5")),
+    "model": (
+        logged_cases,
+        ("METHODS", "scratch_length", "log_length", "drawn", "is_fit", "table_refusal", "mask_refusal", "scratch_refusal", "logged_call"),
+    ),
     "chain": (chain_cases, ("following", "chain_refusal", "chained_call")),
     "selection": (
         selection_cases,
@@ -86,19 +95,27 @@ def complaints(module, edits):
                 yield f"{name}: {old!r} became {new!r}, and no case's answer differs"
 
 
+# Groups that are run alone: the module and the function of it that is edited, the group, and the edits that it must notice.
+GROUPS = (
+    *((selection, "run", getattr(check_selection, group), pieces) for group, pieces in ALONE.items()),
+    (methods, "run_method_5", check_leaks.leaking, LEAKING),
+)
+
+
 # The groups that do not notice, run alone, an edit that they must.
 def blind_groups():
-    text = dict(definitions(selection, SELECTION))["run"]
-    for group, pieces in ALONE.items():
-        differences = lambda: (name for name, got, wanted in getattr(check_selection, group)() if got != wanted)
+    for module, name, group, pieces in GROUPS:
+        text = dict(definitions(module, {}))[name]
+        differences = lambda: (what for what, got, wanted in group() if got != wanted)
         for old, new in pieces:
-            if not noticed(selection, "run", edited(text, old, new), differences):
-                yield f"check_selection: {group} alone does not see that {old!r} became {new!r}"
+            if not noticed(module, name, edited(text, old, new), differences):
+                yield f"{group.__name__} alone does not see that {old!r} of {name} became {new!r}"
 
 
 def main():
     modules = (
-        (model, MODEL),
+        (methods, METHODS),
+        (model, SMALL | BY_METHOD | MODEL | PRINT),
         (counts, COUNTS),
         (chain, CHAIN),
         (sbox, SBOX),

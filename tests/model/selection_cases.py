@@ -9,7 +9,7 @@ import struct
 from collections import namedtuple
 
 import selection
-from logged_cases import FILLED_ENTRY, TOP, checksum
+from call_records import FILLED_ENTRY, TOP, checksum
 from selection import Case
 
 # What each of the plain call's bytes is lent as, and the most entries that the program can lend.

@@ -15,8 +15,8 @@ def sheet(case, table):
 
 def accepted_case(chance, method, n, m):
     below = lambda width: chance.randrange(2**width)
-    b = below(1) if method == 3 else 0
-    return model.Case(method, n, m, below(n), below(n), below(n), below(m), below(m), below(n), b)
+    own = map(chance.choice, model.drawn(method, n))
+    return model.Case(method, n, m, below(n), below(n), below(n), below(m), below(m), *own)
 
 
 def accepted_sheet(chance, method, n, m):
@@ -26,6 +26,7 @@ def accepted_sheet(chance, method, n, m):
 SAMPLE = sheet((2, 1, 1, 0, 1, 0, 0, 1, 1, 0), [1, 0])
 TABLE_A = [2, 0, 3, 1]
 P2 = model.Case(2, 2, 2, 0, 1, 2, 3, 0, 2, 0)
+P2_BY_5 = P2._replace(method=5, r3=0)
 VALVE = model.Case(3, 1, 2, 0, 1, 0, 0, 3, 1, 1)
 
 # What may stand in a field's four columns instead of a number; each makes the sheet malformed.
@@ -64,7 +65,7 @@ def damaged(text):
 
 # Sheets whose numbers meet each refusal, with neighbours that do not.
 def refused(chance):
-    for method in (0, 1, 2, 3, 4, 5, 255):
+    for method in (0, 1, 2, 3, 4, 5, 6, 255):
         yield sheet(P2._replace(method=method), TABLE_A)
     for n in (0, 1, 2, 8, 9, 255):
         yield sheet(P2._replace(n=n), TABLE_A)
@@ -84,9 +85,13 @@ def refused(chance):
     for name in ("x0", "r1", "r2", "r3", "s1", "s2"):
         for value in (3, 4, 255):
             yield sheet(P2._replace(**{name: value}), TABLE_A)
-    for method in (2, 3):
+    for case in (P2, P2._replace(method=3), P2_BY_5):
         for b in (0, 1, 2, 255):
-            yield sheet(P2._replace(method=method, b=b), TABLE_A)
+            yield sheet(case._replace(b=b), TABLE_A)
+    for r3 in (1, 2, 3, 4, 255):
+        yield from (sheet(P2_BY_5._replace(r3=r3, b=b), TABLE_A) for b in (0, 1))
+    yield from (sheet(P2_BY_5._replace(r3=r3, s1=4), TABLE_A) for r3 in (0, 3, 4))
+    yield sheet(P2_BY_5, [0, 0, 0, 1])
     yield sheet(P2._replace(method=4, n=9), TABLE_A)
 
 
@@ -98,7 +103,7 @@ def all_sheets():
     yield sheet(P2._replace(method=3, b=1), TABLE_A)
     yield b""
     yield line(*P2)
-    for method in (2, 3):
+    for method in model.METHODS:
         for n in range(1, 5):
             for m in range(1, 5):
                 yield accepted_sheet(chance, method, n, m)
@@ -121,11 +126,12 @@ def small_tables():
     chance = random.Random(6)
     some = chance.sample(list(tables.every(2, 3)), 200)
     for n, m, known in [*((n, m, tables.every(n, m)) for n in (1, 2) for m in (1, 2)), (2, 3, some)]:
-        yield from (sheet(accepted_case(chance, chance.choice((2, 3)), n, m)._replace(r3=4), table) for table in known)
+        yield from (sheet(accepted_case(chance, chance.choice(model.METHODS), n, m)._replace(r3=4), table) for table in known)
 
 
 def mutated(chance):
-    return mutated_text(chance, accepted_sheet(chance, chance.choice((2, 3)), *chance.choice(((1, 1), (1, 2), (2, 1), (2, 2), (3, 2)))))
+    widths = chance.choice(((1, 1), (1, 2), (2, 1), (2, 2), (3, 2)))
+    return mutated_text(chance, accepted_sheet(chance, chance.choice(model.METHODS), *widths))
 
 
 # A sheet with a few bytes changed, put in, taken out or doubled; or bytes that were never a sheet.

@@ -69,9 +69,10 @@ static unsigned mask_refusal(uint32_t method, uint32_t inputs, uint32_t outputs,
                              uint32_t s2, uint32_t r3, uint32_t b, const uint8_t *scratch, size_t scratch_length) {
     if (from(inputs, x0) || from(inputs, r1) || from(inputs, r2) || from(inputs, r3)) return 10;
     if (from(outputs, s1) || from(outputs, s2)) return 11;
-    if (b > method - 2) return 12;
-    if (scratch_length < inputs) return 13;
-    return dirty(scratch, inputs) ? 19 : 0;
+    if (b > (method == 3) || (method == 5 && r3 > 0)) return 12;
+    size_t needed = method == 5 ? 2 * (size_t)inputs : inputs;
+    if (scratch_length < needed) return 13;
+    return dirty(scratch, needed) ? 19 : 0;
 }
 
 static uint8_t plain_2(uint32_t n, size_t x0, size_t r1, size_t r2, uint8_t s1, uint8_t s2, size_t r3, const uint8_t *table, uint8_t *scratch) {
@@ -102,10 +103,20 @@ static uint8_t plain_3(uint32_t n, size_t x0, size_t r1, size_t r2, uint8_t s1, 
     return registers[b];
 }
 
+// No two masks meet in a register here: the first goes to memory with the entry, and the second is added to what is read again.
+static uint8_t plain_5(uint32_t n, size_t x0, size_t r1, size_t r2, uint8_t s1, uint8_t s2, const uint8_t *table, uint8_t *scratch) {
+    size_t turns = (size_t)1 << n;
+    uint8_t *second = scratch + turns;
+    for (size_t a = 0; a < turns; a++) scratch[a] = table[a ^ r1] ^ s1;
+    for (size_t a = 0; a < turns; a++) second[a] = scratch[a ^ r2] ^ s2;
+    return second[x0];
+}
+
 static inline uint8_t bare(uint32_t method, uint32_t n, uint32_t x0, uint32_t r1, uint32_t r2, uint32_t s1, uint32_t s2, uint32_t r3,
                            uint32_t b, const uint8_t *table, uint8_t *scratch) {
-    return method == 2 ? plain_2(n, x0, r1, r2, (uint8_t)s1, (uint8_t)s2, r3, table, scratch)
-                       : plain_3(n, x0, r1, r2, (uint8_t)s1, (uint8_t)s2, r3, (uint8_t)b, table, scratch);
+    if (method == 2) return plain_2(n, x0, r1, r2, (uint8_t)s1, (uint8_t)s2, r3, table, scratch);
+    if (method == 3) return plain_3(n, x0, r1, r2, (uint8_t)s1, (uint8_t)s2, r3, (uint8_t)b, table, scratch);
+    return plain_5(n, x0, r1, r2, (uint8_t)s1, (uint8_t)s2, table, scratch);
 }
 
 PLAIN_CALL(NAME(bare_call)) {
@@ -114,7 +125,7 @@ PLAIN_CALL(NAME(bare_call)) {
 }
 
 PLAIN_CALL(NAME(plain_call)) {
-    if (method != 2 && method != 3) return 2 * 256;
+    if (method != 2 && method != 3 && method != 5) return 2 * 256;
     unsigned number = table_refusal(n, m, table, table_length);
     if (!number) number = mask_refusal(method, 1u << n, 1u << m, x0, r1, r2, s1, s2, r3, b, scratch, scratch_length);
     return (uint16_t)(number ? number * 256 : bare(method, n, x0, r1, r2, s1, s2, r3, b, table, scratch));
@@ -159,12 +170,36 @@ static uint8_t logged_3(uint32_t n, uint32_t x0, uint32_t r1, uint32_t r2, uint3
     return registers[b];
 }
 
+static uint8_t logged_5(uint32_t n, uint32_t x0, uint32_t r1, uint32_t r2, uint32_t s1, uint32_t s2, const uint8_t *table,
+                        uint8_t *scratch, uint32_t *log) {
+    uint32_t turns = 1u << n;
+    uint8_t *second = scratch + turns;
+    log = put(put(put(put(put(log, 1, x0), 2, r1), 3, r2), 4, s1), 5, s2);
+    for (uint32_t a = 0; a < turns; a++) {
+        uint32_t from = a ^ r1, entry = table[from], once = entry ^ s1;
+        scratch[a] = (uint8_t)once;
+        log = put(put(put(put(log, 6, a), 7, from), 8, entry), 9, once);
+    }
+    for (uint32_t a = 0; a < turns; a++) {
+        uint32_t from = a ^ r2, once = scratch[from], both = once ^ s2;
+        second[a] = (uint8_t)both;
+        log = put(put(put(put(log, 6, a), 10, from), 11, once), 12, both);
+    }
+    put(put(log, 1, x0), 13, second[x0]);
+    return second[x0];
+}
+
+static size_t entries_of_log(uint32_t method, uint32_t n) {
+    return method == 2 ? 10 + ((size_t)6 << n) : method == 3 ? 10 + ((size_t)9 << n) : 7 + ((size_t)8 << n);
+}
+
 LOGGED_CALL(NAME(logged_call)) {
-    if (method != 2 && method != 3) return 2 * 256;
+    if (method != 2 && method != 3 && method != 5) return 2 * 256;
     unsigned number = table_refusal(n, m, table, table_length);
     if (!number) number = mask_refusal(method, 1u << n, 1u << m, x0, r1, r2, s1, s2, r3, b, scratch, scratch_length);
-    if (!number && log_length < 10 + ((size_t)(method == 2 ? 6 : 9) << n)) number = 14;
+    if (!number && log_length < entries_of_log(method, n)) number = 14;
     if (number) return (uint16_t)(number * 256);
-    return method == 2 ? logged_2(n, x0, r1, r2, s1, s2, r3, table, scratch, log)
-                       : logged_3(n, x0, r1, r2, s1, s2, r3, b, table, scratch, log);
+    if (method == 2) return logged_2(n, x0, r1, r2, s1, s2, r3, table, scratch, log);
+    if (method == 3) return logged_3(n, x0, r1, r2, s1, s2, r3, b, table, scratch, log);
+    return logged_5(n, x0, r1, r2, s1, s2, table, scratch, log);
 }

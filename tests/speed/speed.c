@@ -14,9 +14,10 @@ uint32_t cippazhey_logged_call(uint32_t method, uint32_t n, uint32_t m, uint32_t
                                uint8_t *scratch, size_t scratch_length, uint32_t *log, size_t log_length);
 
 // What is timed: each round makes so many calls of each kind under each method.
-enum { TIMED = 5, ROUNDS = 200, CALLS = 1000 };
+enum { METHODS = 3, TIMED = 5, ROUNDS = 200, CALLS = 1000 };
 
-static uint8_t table[256], scratch[256];
+static const uint32_t methods[METHODS] = {2, 3, 5};
+static uint8_t table[256], scratch[512];
 static uint32_t log_entries[2400];
 static volatile unsigned sink;
 
@@ -24,9 +25,9 @@ struct numbers {
     uint32_t method, n, m, x0, r1, r2, s1, s2, r3, b;
 };
 
-#define CALL(name) name(c->method, c->n, c->m, c->x0, c->r1, c->r2, c->s1, c->s2, c->r3, c->b, table, length, scratch, 256)
+#define CALL(name) name(c->method, c->n, c->m, c->x0, c->r1, c->r2, c->s1, c->s2, c->r3, c->b, table, length, scratch, 512)
 #define LOGGED(name) \
-    name(c->method, c->n, c->m, c->x0, c->r1, c->r2, c->s1, c->s2, c->r3, c->b, table, length, scratch, 256, log_entries, 2400)
+    name(c->method, c->n, c->m, c->x0, c->r1, c->r2, c->s1, c->s2, c->r3, c->b, table, length, scratch, 512, log_entries, 2400)
 
 // The kinds of call. A call of nothing takes the same arguments, so that what is counted of it is the harness.
 #define KIND(name, made) \
@@ -61,7 +62,7 @@ static const struct kind {
 
 static void run(const struct kind *kind, uint32_t method, uint32_t n, uint32_t bits, long times) {
     uint32_t last = (1u << n) - 1, greatest = (1u << bits) - 1;
-    struct numbers c = {method, n, n, 90 & last, 60 & last, 7 & last, 33 & last, 18 & last, 201 & last, method - 2};
+    struct numbers c = {method, n, n, 90 & last, 60 & last, 7 & last, 33 & last, 18 & last, method == 5 ? 0 : 201 & last, method == 3};
     for (unsigned i = 0; i <= last; i++) table[i] = (uint8_t)((i * 5 + 3) & greatest);
     for (long i = 0; i < times; i++) {
         memset(scratch, 0, sizeof scratch); // in the harness, so that it is counted with no call
@@ -80,15 +81,16 @@ static double nanoseconds(const struct kind *kind, uint32_t method) {
 
 // The best time of each kind under each method. Every round times all of them, so that other work on the machine slows none alone.
 static void print_times(void) {
-    double best[2 * TIMED];
-    for (int each = 0; each < 2 * TIMED; each++) best[each] = 1e18;
+    double best[METHODS * TIMED];
+    for (int each = 0; each < METHODS * TIMED; each++) best[each] = 1e18;
     for (int round = 0; round < ROUNDS; round++) {
-        for (int each = 0; each < 2 * TIMED; each++) {
-            double time = nanoseconds(&kinds[each / 2], 2 + each % 2);
+        for (int each = 0; each < METHODS * TIMED; each++) {
+            double time = nanoseconds(&kinds[each / METHODS], methods[each % METHODS]);
             if (time < best[each]) best[each] = time;
         }
     }
-    for (int each = 0; each < 2 * TIMED; each++) printf("%s %d %.0f\n", kinds[each / 2].name, 2 + each % 2, best[each]);
+    for (int each = 0; each < METHODS * TIMED; each++)
+        printf("%s %u %.0f\n", kinds[each / METHODS].name, (unsigned)methods[each % METHODS], best[each]);
 }
 
 // The calls' stack begins at a page, whatever the environment holds: memset of the C library chooses its path by alignment.

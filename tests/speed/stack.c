@@ -48,14 +48,17 @@ static void must_be(uint64_t found, uint64_t wanted) {
 }
 
 static void look_up(uint32_t method) {
-    must_be(noted_plain_call(method, 8, 8, numbers[0], numbers[1], numbers[2], numbers[3], numbers[4], numbers[5], method - 2, table,
-                             sizeof table, scratch, sizeof scratch) / 256, CIPPAZHEY_ACCEPTED);
+    must_be(noted_plain_call(method, 8, 8, numbers[0], numbers[1], numbers[2], numbers[3], numbers[4], method == 5 ? 0 : numbers[5],
+                             method == 3, table, sizeof table, scratch, sizeof scratch) / 256, CIPPAZHEY_ACCEPTED);
 }
 static void look_up_by_2(void) {
     look_up(2);
 }
 static void look_up_by_3(void) {
     look_up(3);
+}
+static void look_up_by_5(void) {
+    look_up(5);
 }
 static void encrypt(void) {
     must_be(noted_encrypt_frame(blocks[0], blocks[1], blocks[2], blocks[3], numbers, sizeof numbers, scratch, sizeof scratch, blocks[4],
@@ -113,6 +116,7 @@ static void print_row(const char *name, void (*call)(void)) {
 int main(void) {
     print_row("`cippazhey_plain_call`, method 2", look_up_by_2);
     print_row("`cippazhey_plain_call`, method 3", look_up_by_3);
+    print_row("`cippazhey_plain_call`, method 5", look_up_by_5);
     print_row("`cippazhey_encrypt_frame`", encrypt);
     print_row("`cippazhey_select`", choose);
     print_row("`cippazhey_screen`", screen);

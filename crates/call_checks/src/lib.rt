@@ -5,7 +5,7 @@ ghost use Prim.Native.Nat.{_≤_};
 ghost use lib.Dec.{leb};
 ghost use lib.ListN.{length};
 ghost use Rattle.refusals.specs.Checks.{first-of};
-ghost use Rattle.lookup.specs.Refusals.{mask-checks, scratch-checks, box-checks, other-checks, dirty as Refusals·dirty};
+ghost use Rattle.lookup.specs.Refusals.{mask-checks, scratch-checks, box-checks, other-checks, untaken as Refusals·untaken, dirty as Refusals·dirty};
 ghost use Rattle.lookup.specs.Refusals.{case-refusal, plain-refusal, logged-refusal};
 use lookup::Case;
 
@@ -98,10 +98,21 @@ fn refused_masks(case: Case) -> u32
     if outputs <= case.s2 {
         return 11;
     }
-    if methods::b_most(case.method) < case.b {
+    if untaken(case) {
         return 12;
     }
     0
+}
+
+// An r3 or a b that the method does not take. The width has been checked, so it has a `requires`.
+fn untaken(case: Case) -> bool
+    requires { ⌜ case .n ≤ 8 ⌝ }
+    ensures { λ r. ⌜ r ≡ Refusals·untaken case ⌝ }
+{
+    if methods::r3_most(case.method, case.n) < case.r3 {
+        return true;
+    }
+    methods::b_most(case.method) < case.b
 }
 
 // 13 and 19. The width has been checked, so it has a `requires`.

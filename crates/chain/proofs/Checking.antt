@@ -12,7 +12,7 @@ use Rattle.refusals.proofs.Checks.{stops, goes, stops-both, goes-both}
 use Rattle.lookup.specs.declared.Case.{Case}
 use Rattle.lookup.specs.Case.{Q}
 use Rattle.lookup.specs.Call.{answer}
-use Rattle.lookup.specs.Refusals.{method-checks, mask-checks, scratch-checks, log-checks, box-checks, other-checks}
+use Rattle.lookup.specs.Refusals.{method-checks, mask-checks, untaken, scratch-checks, log-checks, box-checks, other-checks}
 use Rattle.lookup.specs.Promises.{Answer-small}
 use Rattle.lookup.proofs.Refused.{box-numbered, other-numbered, masks-passed, case-by-parts}
 use Rattle.lookup.proofs.Promises.{answer-small}
@@ -30,7 +30,7 @@ module _ (first : Case) (second : Second) where
   -- and so are its other checks, where the answer has the width of its input
   pub other-unseen : (share : ℕ) (scratch log : List ℕ) → share < 2 ^ second .n
       → other-checks (second-case first second 0) scratch log ≡ other-checks (second-case first second share) scratch log
-  unfolding second-case other-checks mask-checks scratch-checks log-checks Q any-from
+  unfolding second-case other-checks mask-checks untaken scratch-checks log-checks Q any-from
   other-unseen share scratch log h = rw (lt-leb (2 ^ second .n) share h, lt-leb (2 ^ second .n) 0 (pow-pos (second .n)))
 
   -- the first's answer has that width

@@ -2,7 +2,7 @@
 -- 0, 1, 1, 0, whose first m is above its n, and chains with two faults each. On each line stands the number that is handed back, behind the
 -- faults.
 use mathlib.Core.Path.{_≡_}
-use mathlib.Core.List.{List, [], _∷_}
+use mathlib.Core.List.{List, [], _∷_, _++_}
 use Prim.Native.Nat.{ℕ}
 use lib.ListN.{replicate}
 use Rattle.lookup.specs.declared.Case.{Case}
@@ -13,6 +13,10 @@ use Rattle.chain.specs.Chain.{chain-refusal}
 
 abbrev first : (r3 : ℕ) → Case
 first r3 = case-from 2 2 2 0 1 2 3 0 r3 0
+
+-- under method 5, which takes no r3
+abbrev first-by-5 : (r3 : ℕ) → Case
+first-by-5 r3 = case-from 5 2 2 0 1 2 3 0 r3 0
 
 abbrev narrow : Case
 narrow = case-from 2 1 2 0 1 0 3 1 1 0
@@ -31,6 +35,13 @@ zeros = replicate 4 0
 
 abbrev dirty : List ℕ
 dirty = 0 ∷ 0 ∷ 1 ∷ 0 ∷ []
+
+-- scratch for method 5, and one whose second half is dirty
+abbrev both-zero : List ℕ
+both-zero = replicate 8 0
+
+abbrev half-dirty : List ℕ
+half-dirty = zeros ++ dirty
 
 -- the number of a chain, by the lengths of its logs
 abbrev refused : Case → Second → (S T scratch scratch′ : List ℕ) → (log log′ : ℕ) → ℕ
@@ -56,5 +67,18 @@ Order-worked =
     ∷ refused (first 2) (second 2 2 1) S T zeros (0 ∷ 0 ∷ 1 ∷ []) 34 33
     ∷ refused (first 2) (second 2 2 1) S T zeros dirty 34 33
     ∷ refused (first 2) (second 2 2 1) S T zeros zeros 34 33
+    -- method 5 first, second, and in both places
+    ∷ refused (first-by-5 0) (second 2 2 1) S T both-zero zeros 39 34
+    ∷ refused (first 2) (second 5 2 0) S T zeros both-zero 34 39
+    ∷ refused (first-by-5 0) (second 5 2 0) S T both-zero both-zero 39 39
+    -- its 10 and 12 as the first's, and 12 before the second's 10; its 12 before its 13 as the second's, then 13, 19 and 14
+    ∷ refused (first-by-5 4) (second 5 2 1) S T both-zero both-zero 39 39
+    ∷ refused (first-by-5 1) (second 5 2 4) S T both-zero both-zero 39 39
+    ∷ refused (first-by-5 0) (second 5 2 4) S T both-zero zeros 39 39
+    ∷ refused (first-by-5 0) (second 5 2 1) S T both-zero zeros 39 39
+    ∷ refused (first-by-5 0) (second 5 2 0) S T both-zero zeros 39 39
+    ∷ refused (first-by-5 0) (second 5 2 0) S T both-zero half-dirty 39 38
+    ∷ refused (first-by-5 0) (second 5 2 0) S T both-zero both-zero 39 38
     ∷ []
-    ≡ 0 ∷ 0 ∷ 18 ∷ 7 ∷ 7 ∷ 18 ∷ 10 ∷ 19 ∷ 14 ∷ 10 ∷ 13 ∷ 19 ∷ 14 ∷ []
+    ≡ 0 ∷ 0 ∷ 18 ∷ 7 ∷ 7 ∷ 18 ∷ 10 ∷ 19 ∷ 14 ∷ 10 ∷ 13 ∷ 19 ∷ 14
+    ∷ 0 ∷ 0 ∷ 0 ∷ 10 ∷ 12 ∷ 10 ∷ 12 ∷ 13 ∷ 19 ∷ 14 ∷ []

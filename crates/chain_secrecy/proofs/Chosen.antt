@@ -2,10 +2,10 @@
 use mathlib.Core.Path.{_≡_, sym, ap, subst, _∙_}
 use mathlib.Core.Bool.{true}
 use mathlib.Core.List.{List, _∷_, map}
-use Prim.Native.Nat.{ℕ, _+_}
+use Prim.Native.Nat.{ℕ, _+_, _^_, _<_}
 use lib.ListN.{length, drop, length-map}
 use Rattle.bits.specs.Xor.{_⊕_}
-use Rattle.bits.proofs.Xor.{xors}
+use Rattle.bits.proofs.Xor.{below, xors}
 use Rattle.counting.specs.Choice.{_▸_, Within}
 use Rattle.counting.proofs.Choice.{within-more}
 use Rattle.counting.proofs.Append.{appended, within-first, within-behind}
@@ -68,13 +68,14 @@ module _ (k : Boxes) (one : Hiding (method-of (k .first-method))) (two : Hiding 
     second-drawn = two .drawn (k .between) (k .output) (second-masks c) second-within
 
     -- the first answers with S[x] under its output masks, so the second's case is that of a single call with input S[x]
-    module _ (S : List ℕ) (x : ℕ) (known-first : known (k .first-method) ≡ true) where
+    module _ (S : List ℕ) (x : ℕ) (hx : x < 2 ^ k .input) (known-first : known (k .first-method) ≡ true) where
       answer-chosen : answer (first-case k x c) S ≡ at S x ⊕ c 3 ⊕ c 4
       unfolding answer first-case chosen-case masked Q
       answer-chosen =
           let d = first-drawn in
           let back : x ⊕ c 0 ⊕ c 1 ⊕ (c 0 ⊕ c 1) ≡ x = simp xors in
-          of-each (k .first-method) right known-first .answers (first-case k x c) S (d .r1) (d .r2) (d .r3) (d .b)
+          of-each (k .first-method) right known-first .answers (first-case k x c) S
+          (below (k .input) (below (k .input) hx (d .r1)) (d .r2)) (d .r1) (d .r2) (d .r3) (d .b)
           ∙ rw back
 
       pub following-chosen : following (first-case k x c) (second-own k c) S

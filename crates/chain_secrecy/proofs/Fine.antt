@@ -13,7 +13,7 @@ use Rattle.lookup.specs.Methods.{methods}
 use Rattle.lookup.proofs.Each.{Each, none, more, each-split, each-all, each-map}
 use Rattle.secrecy.specs.Expressions.{Shown}
 use Rattle.secrecy.proofs.Fine.{rows-at, each-pair, line, everywhere}
-use Rattle.secrecy.proofs.Hiding.{Hiding, hiding-2, hiding-3}
+use Rattle.secrecy.proofs.Hiding.{Hiding, hiding-2, hiding-3, hiding-5}
 use Rattle.chain_secrecy.specs.Count.{Boxes, Which, first, second}
 use Rattle.chain_secrecy.specs.Expressions.{chain-width, chain-system, places}
 
@@ -55,8 +55,14 @@ unfolding all-fine
 pairings =
     more
     (more (record { one = hiding-2; two = hiding-2; widths = λ k. refl; fine = λ a b a' b'. tt })
-    (more (record { one = hiding-2; two = hiding-3; widths = λ k. refl; fine = λ a b a' b'. tt }) none))
+    (more (record { one = hiding-2; two = hiding-3; widths = λ k. refl; fine = λ a b a' b'. tt })
+    (more (record { one = hiding-2; two = hiding-5; widths = λ k. refl; fine = λ a b a' b'. tt }) none)))
     (more
     (more (record { one = hiding-3; two = hiding-2; widths = λ k. refl; fine = λ a b a' b'. tt })
-    (more (record { one = hiding-3; two = hiding-3; widths = λ k. refl; fine = λ a b a' b'. tt }) none))
-    none)
+    (more (record { one = hiding-3; two = hiding-3; widths = λ k. refl; fine = λ a b a' b'. tt })
+    (more (record { one = hiding-3; two = hiding-5; widths = λ k. refl; fine = λ a b a' b'. tt }) none)))
+    (more
+    (more (record { one = hiding-5; two = hiding-2; widths = λ k. refl; fine = λ a b a' b'. tt })
+    (more (record { one = hiding-5; two = hiding-3; widths = λ k. refl; fine = λ a b a' b'. tt })
+    (more (record { one = hiding-5; two = hiding-5; widths = λ k. refl; fine = λ a b a' b'. tt }) none)))
+    none))

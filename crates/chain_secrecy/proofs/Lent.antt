@@ -19,7 +19,7 @@ use Rattle.lookup.specs.Methods.{method-of}
 use Rattle.lookup.specs.Call.{log-of, log-length}
 use Rattle.lookup.specs.Refusals.{scratch-checks, log-checks, case-refusal, logged-refusal}
 use Rattle.lookup.specs.Promises.{Log-long}
-use Rattle.lookup.proofs.Methods.{of-each, known-2-or-3}
+use Rattle.lookup.proofs.Methods.{of-each}
 use Rattle.lookup.proofs.Accepted.{not-refused}
 use Rattle.lookup.proofs.Refused.{Clean, scratch-not-refused, log-not-refused, logged-case}
 use Rattle.lookup.proofs.Promises.{log-long}
@@ -40,10 +40,10 @@ use Rattle.chain_secrecy.proofs.Promises.{chain-tells-nothing}
 module _ (l : Lent) (k : Boxes) (S-accepted : table-refusal (k .input) (k .between) (l .first-table) ≡ 0)
     (T-accepted : table-refusal (k .between) (k .output) (l .second-table) ≡ 0) (paired : Paired k) where
   abbrev one : Hiding (method-of (k .first-method))
-  one = of-each (k .first-method) hiding (known-2-or-3 (paired .0))
+  one = of-each (k .first-method) hiding (paired .0)
 
   abbrev two : Hiding (method-of (k .second-method))
-  two = of-each (k .second-method) hiding (known-2-or-3 (paired .1))
+  two = of-each (k .second-method) hiding (paired .1)
 
   -- what the scratches and logs are refused by, of any choice
   unfoldable rest : ℕ
@@ -62,7 +62,7 @@ module _ (l : Lent) (k : Boxes) (S-accepted : table-refusal (k .input) (k .betwe
     unfolding first-case chosen-case
     first-taken =
         not-refused (first-case k x c) (l .first-table)
-        (choice-taken (l .first-table) (k .first-method) (k .input) (k .between) x (first-masks c) S-accepted (known-2-or-3 (paired .0)) hx
+        (choice-taken (l .first-table) (k .first-method) (k .input) (k .between) x (first-masks c) S-accepted (paired .0) hx
         (first-within k one two c inside))
 
     second-taken : case-refusal later (l .second-table) ≡ 0
@@ -70,10 +70,10 @@ module _ (l : Lent) (k : Boxes) (S-accepted : table-refusal (k .input) (k .betwe
     second-taken =
         let small = table-accepted (k .input) (k .between) (l .first-table) S-accepted .small x in
         let chosen = chosen-case single (k .second-method) (k .between) (k .output) (at (l .first-table) x) (second-masks c) in
-        ap (λ case. case-refusal case (l .second-table)) (following-chosen k one two c inside (l .first-table) x (known-2-or-3 (paired .0)))
+        ap (λ case. case-refusal case (l .second-table)) (following-chosen k one two c inside (l .first-table) x hx (paired .0))
         ∙ not-refused chosen (l .second-table)
         (choice-taken (l .second-table) (k .second-method) (k .between) (k .output) (at (l .first-table) x) (second-masks c) T-accepted
-        (known-2-or-3 (paired .1)) small (second-within k one two c inside))
+        (paired .1) small (second-within k one two c inside))
 
     -- so scratches and logs decide, which no choice changes
     by-lent : chain-refusal (first-case k x c) (second-own k c) l ≡ rest

@@ -104,7 +104,7 @@ module _ (S T : List ℕ) (k : Boxes) where
           at-line (chain-setting S T k) (chain-secrets S T x) c (first-case k x c) S (rows first)
           (p .one .shown (places first) (k .first-method) (k .input) (k .between) x S _ _ c first-stands) i
       shown-at second i =
-          ap (λ case. value-at (log-of case T) i) (following-chosen k (p .one) (p .two) c inside S x known-first)
+          ap (λ case. value-at (log-of case T) i) (following-chosen k (p .one) (p .two) c inside S x hx known-first)
           ∙ at-line (chain-setting S T k) (chain-secrets S T x) c
           (chosen-case behind (k .second-method) (k .between) (k .output) (at S x) c) T (rows second)
           (p .two .shown (places second) (k .second-method) (k .between) (k .output) (at S x) T _ _ c second-stands) i

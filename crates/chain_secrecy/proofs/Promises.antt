@@ -3,7 +3,7 @@ use Rattle.probing.proofs.Sound.{alike}
 use Rattle.table.proofs.Fit.{fit-below}
 use Rattle.table.proofs.Even.{fit-even}
 use Rattle.lookup.specs.Methods.{method-of}
-use Rattle.lookup.proofs.Methods.{of-each, known-2-or-3}
+use Rattle.lookup.proofs.Methods.{of-each}
 use Rattle.chain_secrecy.specs.Expressions.{chain-system, chain-setting}
 use Rattle.chain_secrecy.specs.Promises.{Chain-tells-nothing, Even-chain-tells-nothing}
 use Rattle.chain_secrecy.proofs.Fine.{paired-rows, pairings, any-two}
@@ -12,8 +12,8 @@ use Rattle.chain_secrecy.proofs.Observed.{turns, assumed, counts-equal}
 pub even-chain-tells-nothing : Even-chain-tells-nothing
 unfolding Even-chain-tells-nothing
 even-chain-tells-nothing S T k x y w w′ i j u v even small even′ small′ paired hx hy =
-    let known-first = known-2-or-3 (paired .0) in
-    let p = of-each (k .second-method) (of-each (k .first-method) pairings known-first) (known-2-or-3 (paired .1)) in
+    let known-first = paired .0 in
+    let p = of-each (k .second-method) (of-each (k .first-method) pairings known-first) (paired .1) in
     let f = method-of (k .first-method) in
     let g = method-of (k .second-method) in
     counts-equal S T k p known-first small x y w w′ i j u v hx hy

@@ -1,9 +1,8 @@
 -- The third demand of a chain, of the logs as they are defined and of the chained call itself. Each statement is a type; the proofs stand in
 -- proofs/Promises.antt, proofs/Lent.antt and proofs/Counts.antt.
 use mathlib.Core.Path.{_≡_}
-use mathlib.Core.Logic.{_⊎_}
 use mathlib.Core.Bool.{true, false}
-use mathlib.Core.List.{List, [], _∷_}
+use mathlib.Core.List.{List, [], _∷_, map}
 use Prim.Native.Nat.{ℕ, _+_, _*_, _^_, _≤_, _<_}
 use lib.ListN.{length}
 use Rattle.bits.specs.Xor.{_⊕_}
@@ -13,6 +12,7 @@ use Rattle.table.specs.Fit.{fit}
 use Rattle.table.specs.Even.{Even}
 use Rattle.table.specs.Refusals.{table-refusal}
 use Rattle.lookup.specs.declared.Case.{Case}
+use Rattle.lookup.specs.Methods.{known}
 use Rattle.lookup.specs.Call.{scratch-length}
 use Rattle.lookup.specs.Refusals.{dirty}
 use Rattle.chain.specs.declared.Second.{Second}
@@ -21,9 +21,9 @@ use Rattle.chain.specs.Chain.{chain-refusal}
 use Rattle.chain_secrecy.specs.Count.{Boxes, boxes, boxes-of, Which, first, second, entries, chain-widths, first-case, second-own}
 use Rattle.chain_secrecy.specs.Count.{defined-logs, left-logs, chain-count, chain-call-count}
 
--- all four pairings of methods
+-- all nine pairings of methods
 abbrev pub Paired : Boxes → Type 0
-Paired k = ((k .first-method ≡ 2) ⊎ (k .first-method ≡ 3)) × ((k .second-method ≡ 2) ⊎ (k .second-method ≡ 3))
+Paired k = (known (k .first-method) ≡ true) × (known (k .second-method) ≡ true)
 
 -- for every two fit tables, balanced ones among them (`Balanced-fit` of `table`), each pairing of methods, any two entries, of one log or of
 -- two, the same one twice included, any two values and any two inputs of the first table: as many choices of all masks put those values there
@@ -98,13 +98,14 @@ Refusals-alike =
     → Within (chain-widths k) choice → Within (chain-widths k) other →
     chain-refusal (first-case k x choice) (second-own k choice) l ≡ chain-refusal (first-case k y other) (second-own k other) l
 
--- how many choices there are: 2^(3n + 3m + 2m') under method 2 twice, twice as many for each call under method 3
+-- how many choices there are: the first call's, 2^(3n + 2m) under method 2, twice as many under method 3 and 2^(2n + 2m) under method 5, times
+-- those that the second draws besides, 2^(m + 2m'), twice as many, and 2^(2m')
 unfoldable pub Choices-counted : Type 0
 Choices-counted =
-    (n m m′ : ℕ) → (over (chain-widths (boxes 2 2 n m m′)) (λ c. 1) ≡ 2 ^ (3 * n + 3 * m + 2 * m′))
-    × (over (chain-widths (boxes 2 3 n m m′)) (λ c. 1) ≡ 2 * 2 ^ (3 * n + 3 * m + 2 * m′))
-    × (over (chain-widths (boxes 3 2 n m m′)) (λ c. 1) ≡ 2 * 2 ^ (3 * n + 3 * m + 2 * m′))
-    × (over (chain-widths (boxes 3 3 n m m′)) (λ c. 1) ≡ 4 * 2 ^ (3 * n + 3 * m + 2 * m′))
+    (n m m′ : ℕ) →
+    map (λ f. map (λ g. over (chain-widths (boxes f g n m m′)) (λ c. 1)) (2 ∷ 3 ∷ 5 ∷ [])) (2 ∷ 3 ∷ 5 ∷ [])
+    ≡ map (λ first. map (λ second. first * second) (2 ^ (m + 2 * m′) ∷ 2 * 2 ^ (m + 2 * m′) ∷ 2 ^ (2 * m′) ∷ []))
+    (2 ^ (3 * n + 2 * m) ∷ 2 * 2 ^ (3 * n + 2 * m) ∷ 2 ^ (2 * n + 2 * m) ∷ [])
 
 -- The count in numbers, with the table 1, 0 second, and first unless another is named. Under method 2 twice there are 256 choices: none shows
 -- the first's answer as 0 and the second's x0, which is the same share, as 1; 64 show the first's r1 as 0 and the second's r1, which is the
@@ -112,7 +113,9 @@ Choices-counted =
 -- first there are 2048: 256 show the first's x0 as 3 and the second's answer as 1. With 0, 0, 0, 1 first, which is not fit, the masked entry
 -- of turn 0 and the second's x0 are both 0 for 768 of as many where the input is 0, and for 256 where it is 3. With 0, 3 first, one bit in and
 -- two out, there are 2048 too: with 0, 1, 1, 0 second 256 show the masked entry of turn 0 as 3 and the second's x0 as 0, for either input; with
--- 0, 0, 0, 1 second its masked entry of turn 0 and its answer are both 0 for 768 where the input is 0, and for 256 where it is 1
+-- 0, 0, 0, 1 second its masked entry of turn 0 and its answer are both 0 for 768 where the input is 0, and for 256 where it is 1. Under method 5
+-- twice there are 64: none shows the first's answer as 0 and the second's x0 as 1; 32 show the first's s1 and the second's r1 as 0. With
+-- 0, 0, 0, 1 first there are 256: kind 12 of turn 0 and the second's x0 are both 0 for 96 where the input is 0, and for 32 where it is 3
 unfoldable pub Counts-computed : Type 0
 Counts-computed =
     chain-count (1 ∷ 0 ∷ []) (1 ∷ 0 ∷ []) (boxes 2 2 1 1 1) 0 first second 21 0 0 1
@@ -125,5 +128,9 @@ Counts-computed =
     ∷ chain-count (0 ∷ 3 ∷ []) (0 ∷ 1 ∷ 1 ∷ 0 ∷ []) (boxes 2 2 1 2 1) 1 first second 13 0 3 0
     ∷ chain-count (0 ∷ 3 ∷ []) (0 ∷ 0 ∷ 0 ∷ 1 ∷ []) (boxes 2 2 1 2 1) 0 second second 13 33 0 0
     ∷ chain-count (0 ∷ 3 ∷ []) (0 ∷ 0 ∷ 0 ∷ 1 ∷ []) (boxes 2 2 1 2 1) 1 second second 13 33 0 0
+    ∷ chain-count (1 ∷ 0 ∷ []) (1 ∷ 0 ∷ []) (boxes 5 5 1 1 1) 0 first second 22 0 0 1
+    ∷ chain-count (1 ∷ 0 ∷ []) (1 ∷ 0 ∷ []) (boxes 5 5 1 1 1) 0 first second 3 1 0 0
+    ∷ chain-count (0 ∷ 0 ∷ 0 ∷ 1 ∷ []) (1 ∷ 0 ∷ []) (boxes 5 5 2 1 1) 0 first second 24 0 0 0
+    ∷ chain-count (0 ∷ 0 ∷ 0 ∷ 1 ∷ []) (1 ∷ 0 ∷ []) (boxes 5 5 2 1 1) 3 first second 24 0 0 0
     ∷ []
-    ≡ 0 ∷ 64 ∷ 256 ∷ 256 ∷ 768 ∷ 256 ∷ 256 ∷ 256 ∷ 768 ∷ 256 ∷ []
+    ≡ 0 ∷ 64 ∷ 256 ∷ 256 ∷ 768 ∷ 256 ∷ 256 ∷ 256 ∷ 768 ∷ 256 ∷ 0 ∷ 32 ∷ 96 ∷ 32 ∷ []

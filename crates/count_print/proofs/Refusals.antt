@@ -21,7 +21,7 @@ module _ (p : ProbePair) where
   pub side-most : value-width p ≤ 3 → 2 ^ value-width p ≤ 8
   side-most h = pow-mono h
 
-  -- the method and the table are let through: scratch and log have no more than 256 and 2314 elements
+  -- the method and the table are let through: scratch and log have no more than 512 and 2314 elements
   module _ (table : List ℕ) (e : first-of (pair-checks p table) ≡ 0) where
     input-most : p .n ≤ 8
     input-most = table-accepted (p .n) (p .m) table (pair-taken p table e .taken) .input-most
@@ -29,5 +29,5 @@ module _ (p : ProbePair) where
     pub log-small : log-length (p .method) (p .n) ≤ 2314
     log-small = log-most (p .method) (p .n) (pair-taken p table e .method) input-most
 
-    pub scratch-small : scratch-length (p .method) (p .n) ≤ 256
+    pub scratch-small : scratch-length (p .method) (p .n) ≤ 512
     scratch-small = scratch-most (p .method) (p .n) (pair-taken p table e .method) input-most

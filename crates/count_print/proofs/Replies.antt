@@ -22,7 +22,7 @@ use Rattle.count_print.specs.Print.{print-refusal, reply}
 use Rattle.count_print.proofs.Refusals.{width-small, side-most}
 
 module _ (p : ProbePair) (table : List ℕ) (refusal : ℕ)
-    (told : refusal ≡ count-refusal p table (replicate 256 0) (replicate 2400 0) (replicate 64 0)) where
+    (told : refusal ≡ count-refusal p table (replicate 512 0) (replicate 2400 0) (replicate 64 0)) where
   -- refused
   refused : (refusal ≡ 0 → ⊥) → line-of 4 (refusal ∷ []) ≡ reply p table
   unfolding reply print-refusal
@@ -39,7 +39,7 @@ module _ (p : ProbePair) (table : List ℕ) (refusal : ℕ)
   module _ (z : refusal ≡ 0) (width : ℕ) (wide : width ≡ max (p .n) (p .m)) where
     small : value-width p ≤ 3
     small =
-        let t = accepted p table (replicate 256 0) (replicate 2400 0) (replicate 64 0) (sym told ∙ z) .countable in
+        let t = accepted p table (replicate 512 0) (replicate 2400 0) (replicate 64 0) (sym told ∙ z) .countable in
         width-small p (t .input) (t .output)
 
     same-width : width ≡ value-width p
@@ -67,7 +67,7 @@ module _ (p : ProbePair) (table : List ℕ) (refusal : ℕ)
           let most : side * (8 * side + 1) ≤ 8 * 65 = mul-le-mul {m₂ = 65} few (omega (arith, few)) in
           omega arith
 
-      module _ (sheet : List ℕ) (left-is : sheet ≡ sheet-left p table (replicate 256 0) (replicate 2400 0) (replicate 64 0)) where
+      module _ (sheet : List ℕ) (left-is : sheet ≡ sheet-left p table (replicate 512 0) (replicate 2400 0) (replicate 64 0)) where
         counts-long : length (counts table p) ≡ side * side
         unfolding counts
         counts-long = tabulate-long _ _ ∙ squared (value-width p) ∙ rw same-side

@@ -22,10 +22,10 @@ pair-read numbers =
       second = getD numbers 5 0;
     }
 
--- 256 bytes of scratch and 2400 entries of a log are lent, enough for any table that is let in, and 64 of a sheet, enough for n and m up to 3:
+-- 512 bytes of scratch and 2400 entries of a log are lent, enough for any table that is let in, and 64 of a sheet, enough for n and m up to 3:
 -- 13, 14 and 17 are never printed (`Lent-enough`)
 unfoldable pub print-refusal : ProbePair → (table : List ℕ) → ℕ
-print-refusal p table = count-refusal p table (replicate 256 0) (replicate 2400 0) (replicate 64 0)
+print-refusal p table = count-refusal p table (replicate 512 0) (replicate 2400 0) (replicate 64 0)
 
 -- 2^k lines of 2^k counts: line u has those of u with v = 0, 1, ..; a refused case: its number alone
 unfoldable pub reply : ProbePair → (table : List ℕ) → List ℕ

@@ -40,7 +40,7 @@ fn reply(pair: ProbePair, table: &[u8], output: &mut [u8; 1024]) -> usize
     ensures { λ r. ⌜ r ≡ length (Print·reply pair (now (table .entry))) ⌝ }
     ensures { λ _. ⌜ now (output .exit) ≡ in-front (Print·reply pair (now (table .entry))) (now (output .entry)) ⌝ }
 {
-    let mut scratch = [0u8; 256];
+    let mut scratch = [0u8; 512];
     let mut log = [0u32; 2400];
     let mut sheet = [0u32; 64];
     let refusal = count_sheet::count_sheet(pair, table, &mut scratch, &mut log, &mut sheet);

@@ -19,6 +19,7 @@ use Rattle.lookup.specs.declared.Case.{Case}
 use Rattle.lookup.specs.Method.{Method, class-width}
 use Rattle.lookup.specs.Method2.{method-2}
 use Rattle.lookup.specs.Method3.{method-3}
+use Rattle.lookup.specs.Method5.{method-5}
 use Rattle.lookup.specs.Methods.{known, method-of, methods}
 use Rattle.lookup.proofs.Each.{Each, none, more}
 use Rattle.lookup.proofs.Methods.{of-each}
@@ -30,18 +31,21 @@ use Rattle.count_sheet.specs.Runs.{numbered-case}
 abbrev Few : Method → Type 0
 Few method = (n m : ℕ) → n ≤ 3 → m ≤ 3 → total (map (class-width n m) (method .mask-classes)) ≤ 16
 
-at-most-16 : (n m w : ℕ) → n ≤ 3 → m ≤ 3 → w ≤ 1 → total (n ∷ n ∷ n ∷ m ∷ m ∷ w ∷ []) ≤ 16
+at-most-16 : (n m v w : ℕ) → n ≤ 3 → m ≤ 3 → v ≤ n → w ≤ 1 → total (n ∷ n ∷ v ∷ m ∷ m ∷ w ∷ []) ≤ 16
 unfolding total
-at-most-16 n m w h l b = omega arith
+at-most-16 n m v w h l c b = omega arith
 
 few : Each Few methods
-few = more few-2 (more few-3 none)
+few = more few-2 (more few-3 (more few-5 none))
   where
     few-2 : Few method-2
-    few-2 n m h l = at-most-16 n m 0 h l (omega arith)
+    few-2 n m h l = at-most-16 n m n 0 h l (omega arith) (omega arith)
 
     few-3 : Few method-3
-    few-3 n m h l = at-most-16 n m 1 h l (omega arith)
+    few-3 n m h l = at-most-16 n m n 1 h l (omega arith) (omega arith)
+
+    few-5 : Few method-5
+    few-5 n m h l = at-most-16 n m 0 0 h l (omega arith) (omega arith)
 
 pub few-bits : (method n m : ℕ) → known method ≡ true → n ≤ 3 → m ≤ 3 → total (map (class-width n m) (method-of method .mask-classes)) ≤ 16
 few-bits method n m k = of-each method few k n m

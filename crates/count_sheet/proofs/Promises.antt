@@ -20,7 +20,6 @@ use Rattle.table.specs.Tabulate.{tabulate}
 use Rattle.table.proofs.Tabulate.{tabulate-at, tabulate-long}
 use Rattle.table.proofs.Refusals.{table-accepted}
 use Rattle.lookup.specs.Call.{log-of, log-length, scratch-length}
-use Rattle.lookup.proofs.Methods.{two-or-three}
 use Rattle.secrecy.specs.Count.{mask-widths, count}
 use Rattle.secrecy.specs.Promises.{Tells-nothing, Choices-counted}
 use Rattle.secrecy.proofs.Promises.{tells-nothing, choices-counted}
@@ -86,7 +85,7 @@ unfolding Sum-right Choices-counted
 sum-right table scratch log sheet p e =
     let all = all-counted table scratch log sheet p e in
     let numbers = choices-counted (p .n) (p .m) in
-    (λ two. all ∙ rw two (numbers .0), λ three. all ∙ rw three (numbers .1))
+    (λ two. all ∙ rw two (numbers .0), λ three. all ∙ rw three (numbers .1), λ five. all ∙ rw five (numbers .2))
 
 -- two secrets of the table's width: neither is refused, and the counts are those of the third demand
 module _ (table scratch log sheet : List ℕ) (p : ProbePair) (x y : ℕ) (hx : x < 2 ^ p .n) (hy : y < 2 ^ p .n) where
@@ -102,7 +101,7 @@ module _ (table scratch log sheet : List ℕ) (p : ProbePair) (x y : ℕ) (hx : 
       let fitness = table-accepted (p .n) (p .m) table (t .table) .fitness in
       ap (tabulate (2 ^ (2 * max (p .n) (p .m))))
       (fun-ext (λ i. tells-nothing table (p .method) (p .n) (p .m) x y (p .first) (p .second) (i / side) (i % side) fitness
-      (two-or-three (p .method) (t .method)) hx hy))
+      (t .method) hx hy))
 
 pub secrets-alike : Secrets-alike
 unfolding Secrets-alike sheet-left scratch-left log-left with-secret

@@ -19,7 +19,6 @@ use Rattle.lookup.specs.Call.{log-of, log-length, scratch-length}
 use Rattle.lookup.specs.Refusals.{dirty, case-refusal, logged-refusal}
 use Rattle.lookup.specs.Promises.{Log-long, Values-small}
 use Rattle.lookup.proofs.Accepted.{not-refused}
-use Rattle.lookup.proofs.Methods.{two-or-three}
 use Rattle.lookup.proofs.Entry.{value-fits}
 use Rattle.lookup.proofs.Promises.{log-long, values-small}
 use Rattle.lookup.proofs.Refused.{zeros-clean}
@@ -89,7 +88,7 @@ module _ (p : ProbePair) (table : List ℕ) (t : Countable p table) (number : �
         let long : length scratch ≡ k = ap length now ∙ length-replicate k 0 in
         let clean : dirty k scratch ≡ false = zeros-clean k scratch (take-all k scratch (le-of-eq long) ∙ now) in
         rw e
-        (choices-accepted table scratch log (p .method) (p .n) (p .m) (p .secret) _ (t .table) (two-or-three (p .method) (t .method)) (t .secret)
+        (choices-accepted table scratch log (p .method) (p .n) (p .m) (p .secret) _ (t .table) (t .method) (t .secret)
         (numbered-within (mask-widths (p .method) (p .n) (p .m)) number) (le-of-eq (sym long)) clean (le-of-eq (sym l)))
 
     -- the log that it leaves is the defined one

@@ -19,6 +19,7 @@ use Rattle.lookup.specs.Entry.{entry, value-of}
 use Rattle.lookup.specs.Row.{masked}
 use Rattle.lookup.specs.Method2.{r-prime, scratch-2, answer-2}
 use Rattle.lookup.specs.Method3.{comparison-table, place-3, compared, registers-3, answer-3}
+use Rattle.lookup.specs.Method5.{copied, answer-5}
 use Rattle.lookup.specs.Methods.{among, found, known, method-of}
 use Rattle.lookup.specs.Call.{log-of, log-length, scratch-length}
 use Rattle.lookup.specs.Layout.{pass-lines, passes-lines, lines}
@@ -41,11 +42,11 @@ pub p12-right : P12-right
 unfolding P12-right Secrets-alike with-secret
 p12-right x h =
     let p : ProbePair = record { method = 2; n = 1; m = 1; secret = 0; first = 0; second = 21 } in
-    secrets-alike (1 ∷ 0 ∷ []) (replicate 2 0) (replicate 28 0) (9 ∷ 9 ∷ 9 ∷ 9 ∷ 7 ∷ []) p x 0 h (lit< tt) .1 ∙ first-secret
+    secrets-alike (1 ∷ 0 ∷ []) (replicate 4 0) (replicate 28 0) (9 ∷ 9 ∷ 9 ∷ 9 ∷ 7 ∷ []) p x 0 h (lit< tt) .1 ∙ first-secret
 
 pub worked-right : Worked-right
 unfolding Worked-right _⊕_ sum over first-of outside any-from left in-front at count-of occurs each-value equally-often closed fit
-    table-checks tabulate Q entry value-of masked r-prime scratch-2 answer-2 comparison-table place-3 compared registers-3 answer-3 among found known
+    table-checks tabulate Q entry value-of masked r-prime scratch-2 answer-2 comparison-table place-3 compared registers-3 answer-3 copied answer-5 among found known
     method-of log-of log-length scratch-length pass-lines passes-lines lines chosen-case mask-widths value-at shows count value-width pair-checks
     buffer-checks sheet-checks count-refusal count-for counts sheet-left
-worked-right = (refl, refl, refl, refl)
+worked-right = (refl, refl, refl, refl, refl)

@@ -27,12 +27,14 @@ Entry-right =
     at (sheet-left p table scratch log sheet) (u * 2 ^ value-width p + v)
     ≡ count table (p .method) (p .n) (p .m) (p .secret) (p .first) (p .second) u v
 
--- together they are as many as there are choices, 2^(3n + 2m) under method 2 and twice as many under method 3: no run shows another value
+-- together they are as many as there are choices, 2^(3n + 2m) under method 2, twice as many under method 3, and 2^(2n + 2m) under method 5: no
+-- run shows another value
 unfoldable pub Sum-right : Type 0
 Sum-right =
     (table scratch log sheet : List ℕ) (p : ProbePair) → count-refusal p table scratch log sheet ≡ 0 →
     (p .method ≡ 2 → sum (2 ^ (2 * value-width p)) (at (sheet-left p table scratch log sheet)) ≡ 2 ^ (3 * p .n + 2 * p .m))
     × (p .method ≡ 3 → sum (2 ^ (2 * value-width p)) (at (sheet-left p table scratch log sheet)) ≡ 2 * 2 ^ (3 * p .n + 2 * p .m))
+    × (p .method ≡ 5 → sum (2 ^ (2 * value-width p)) (at (sheet-left p table scratch log sheet)) ≡ 2 ^ (2 * p .n + 2 * p .m))
 
 -- none of them is above 65536, so each has room in 32 bits and in eight columns
 unfoldable pub Entry-small : Type 0
@@ -54,8 +56,8 @@ Secrets-alike =
     × (scratch-left (with-secret x p) table scratch log sheet ≡ scratch-left (with-secret y p) table scratch log sheet)
     × (log-left (with-secret x p) table scratch log sheet ≡ log-left (with-secret y p) table scratch log sheet)
 
--- after an accepted count as many bytes of the scratch as the method needs, 2^n by `Lengths-right` of `lookup`, and the log's entries below
--- its length are zero
+-- after an accepted count as many bytes of the scratch as the method needs (`Lengths-right` of `lookup`: 2^n, and twice as many under method 5)
+-- and the log's entries below its length are zero
 unfoldable pub Zeros-left : Type 0
 Zeros-left =
     (table scratch log sheet : List ℕ) (p : ProbePair) → count-refusal p table scratch log sheet ≡ 0 →
@@ -74,7 +76,7 @@ Rest-kept =
 abbrev pub worked : (method secret first second : ℕ) → List ℕ
 worked method x i j =
     let p : ProbePair = record { method = method; n = 1; m = 1; secret = x; first = i; second = j } in
-    sheet-left p (1 ∷ 0 ∷ []) (replicate 2 0) (replicate 28 0) (9 ∷ 9 ∷ 9 ∷ 9 ∷ 7 ∷ [])
+    sheet-left p (1 ∷ 0 ∷ []) (replicate 4 0) (replicate 28 0) (9 ∷ 9 ∷ 9 ∷ 9 ∷ 7 ∷ [])
 
 -- P12 of the bench sheet: under method 2, positions 0 and 21 show each of the four pairs for 8 of 32 choices, for both secrets
 unfoldable pub P12-right : Type 0
@@ -86,9 +88,11 @@ worked-wide =
     let p : ProbePair = record { method = 2; n = 1; m = 2; secret = 1; first = 0; second = 21 } in
     sheet-left p (0 ∷ 3 ∷ []) (replicate 2 0) (replicate 22 0) (replicate 16 9 ++ 7 ∷ [])
 
--- a turn's number, which is 0, beside x0, and x0 beside it; under method 3, b beside 1 - b; and the wide one
+-- a turn's number, which is 0, beside x0, and x0 beside it; under method 3, b beside 1 - b; under method 5, r1 beside the table's entry for
+-- it; and the wide one
 unfoldable pub Worked-right : Type 0
 Worked-right =
     (worked 2 0 8 0 ≡ 16 ∷ 16 ∷ 0 ∷ 0 ∷ 7 ∷ []) × (worked 2 0 0 8 ≡ 16 ∷ 0 ∷ 16 ∷ 0 ∷ 7 ∷ [])
     × (worked 3 0 5 7 ≡ 0 ∷ 32 ∷ 32 ∷ 0 ∷ 7 ∷ [])
+    × (worked 5 0 6 7 ≡ 0 ∷ 8 ∷ 8 ∷ 0 ∷ 7 ∷ [])
     × (worked-wide ≡ replicate 8 16 ++ replicate 8 0 ++ 7 ∷ [])

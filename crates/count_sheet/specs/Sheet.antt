@@ -22,7 +22,7 @@ counts table p = tabulate (2 ^ (2 * value-width p)) (λ e. count-for table p (e 
 unfoldable pub sheet-left : ProbePair → (table scratch log sheet : List ℕ) → List ℕ
 sheet-left p table scratch log sheet = left (count-refusal p table scratch log sheet) (in-front (counts table p) sheet) sheet
 
--- as many bytes of the scratch as the runs needed, 2^n under methods 2 and 3, are zero
+-- as many bytes of the scratch as the runs needed, 2^n under methods 2 and 3 and twice as many under method 5, are zero
 unfoldable pub scratch-left : ProbePair → (table scratch log sheet : List ℕ) → List ℕ
 scratch-left p table scratch log sheet =
     left (count-refusal p table scratch log sheet) (in-front (replicate (scratch-length (p .method) (p .n)) 0) scratch) scratch

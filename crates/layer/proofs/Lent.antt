@@ -1,6 +1,5 @@
 -- On clean scratch every call accepts every choice that is counted, and what the calls leave in the lent logs is what is counted.
 use mathlib.Core.Path.{_≡_, refl, ap}
-use mathlib.Core.Logic.{inl}
 use mathlib.Core.List.{List}
 use Prim.Native.Nat.{ℕ, _<_}
 use Rattle.counting.specs.Choice.{Within}
@@ -12,6 +11,7 @@ use Rattle.lookup.specs.Entry.{value-of}
 use Rattle.lookup.specs.Methods.{found, method-of}
 use Rattle.lookup.specs.Call.{log-of, log-length}
 use Rattle.lookup.specs.Refusals.{logged-refusal}
+use Rattle.lookup.proofs.Methods.{known-2}
 use Rattle.calls.specs.Reply.{logged-log}
 use Rattle.secrecy.specs.Count.{chosen-case, mask-widths, value-at}
 use Rattle.secrecy.specs.Promises.{Choices-accepted, Lent-log-counted}
@@ -28,7 +28,7 @@ module _ (table : List ℕ) (scratch lent : ℕ → List ℕ) (calls n m : ℕ) 
         → logged-refusal (call-case n m x c k) table (scratch k) (lent k) ≡ 0
     unfolding Choices-accepted layer-widths places call-case chosen-case mask-widths method-of found
     call-accepted c k inside l =
-        choices-accepted table (scratch k) (lent k) 2 n m (x k) (own k c) accepted (inl refl) (inputs k l)
+        choices-accepted table (scratch k) (lent k) 2 n m (x k) (own k c) accepted known-2 (inputs k l)
         (part-within (mask-widths 2 n m) calls c inside k l) (fit k l .0) (fit k l .1) (fit k l .2)
 
     entry-counted : (c : ℕ → ℕ) → Within (layer-widths calls n m) c → (k p : ℕ) → k < calls → p < log-length 2 n

@@ -1,6 +1,5 @@
 -- A layer's promises hold, since each call alone tells nothing, and is accepted on clean scratch.
 use mathlib.Core.Path.{_≡_, refl, ap, _∙_}
-use mathlib.Core.Logic.{inl}
 use Prim.Native.Nat.{ℕ, _+_, _*_, _^_, _<_}
 use native.Mathlib.Omega.{arith}
 use Rattle.counting.specs.Choice.{total}
@@ -12,6 +11,7 @@ use Rattle.sbox.specs.Promises.{Sbox-balanced}
 use Rattle.sbox.proofs.Promises.{sbox-balanced}
 use Rattle.lookup.specs.Methods.{found, method-of}
 use Rattle.lookup.specs.Call.{log-of, log-length}
+use Rattle.lookup.proofs.Methods.{known-2}
 use Rattle.calls.specs.Reply.{logged-log}
 use Rattle.secrecy.specs.Count.{mask-widths, count, call-count}
 use Rattle.secrecy.specs.Promises.{Tells-nothing, Call-tells-nothing}
@@ -28,7 +28,7 @@ pub logs-tell-nothing : (calls : ℕ) → Logs-tell-nothing calls
 unfolding Logs-tell-nothing layer-count Tells-nothing count
 logs-tell-nothing calls table n m x y a b i j u v fitness hx hy ha hb =
     calls-alike n m (λ e. Unit {0}) (λ k case. log-of case table) calls x y
-    (λ k l i j u v _ _. tells-nothing table 2 n m (x k) (y k) i j u v fitness (inl refl) (hx k l) (hy k l))
+    (λ k l i j u v _ _. tells-nothing table 2 n m (x k) (y k) i j u v fitness known-2 (hx k l) (hy k l))
     a b i j u v ha hb tt tt
 
 pub layer-tells-nothing : Layer-tells-nothing
@@ -44,7 +44,7 @@ pub layer-calls-tell-nothing : Layer-calls-tell-nothing
 unfolding Layer-calls-tell-nothing layer-call-count Call-tells-nothing call-count
 layer-calls-tell-nothing table scratch lent n m x y a b i j u v accepted hx hy =
     calls-alike n m (λ e. e < log-length 2 n) (λ k case. logged-log case table (scratch k) (lent k)) 16 x y
-    (λ k l i j u v. call-tells-nothing table (scratch k) (lent k) 2 n m (x k) (y k) i j u v accepted (inl refl) (hx k l) (hy k l))
+    (λ k l i j u v. call-tells-nothing table (scratch k) (lent k) 2 n m (x k) (y k) i j u v accepted known-2 (hx k l) (hy k l))
     a b i j u v
 
 pub layer-choices-accepted : Layer-choices-accepted

@@ -58,7 +58,7 @@ module _ {A : Type 0} (show : ℕ → A → ℕ) (turns : ℕ) where
         → next ≡ written before start (pass-lines show turns pass) → Passed (start + length pass * turns) passes next after
         → Passed start (pass ∷ passes) before after
 
-  passed-written : {start : ℕ} {passes : List (List A)} {before after : List ℕ} → start + length (all-rows passes) * turns ≤ length before
+  pub passed-written : {start : ℕ} {passes : List (List A)} {before after : List ℕ} → start + length (all-rows passes) * turns ≤ length before
       → Passed start passes before after → after ≡ written before start (passes-lines show turns passes)
   unfolding passes-lines
   passed-written {start} room (none-passed {log = log}) = written-none start log
@@ -71,23 +71,31 @@ module _ {A : Type 0} (show : ℕ → A → ℕ) (turns : ℕ) where
       (omega (arith, passes-long show turns ps)))
 
   -- head, passes and end make the log
-  pub layout-written : (l : Layout A) (log first second third : List ℕ) → layout-size turns l ≤ length log
+  pub layout-passed : (l : Layout A) (log first second third : List ℕ) → layout-size turns l ≤ length log
       → first ≡ written log 0 (map (show 0) (l .head))
-      → Passed (length (l .head)) (l .passes) first second
+      → second ≡ written first (length (l .head)) (passes-lines show turns (l .passes))
       → third ≡ written second (length (l .head) + length (all-rows (l .passes)) * turns) (map (show 0) (l .end))
       → third ≡ in-front (lines show turns l) log
   unfolding lines
-  layout-written l log first second third room f s t =
+  layout-passed l log first second third room f s t =
       let head = map (show 0) (l .head) in
       let middle = passes-lines show turns (l .passes) in
       let end = map (show 0) (l .end) in
       let head-count = length-map (l .head) (show 0) in
       let middle-count = passes-long show turns (l .passes) in
       let end-count = length-map (l .end) (show 0) in
-      let long : length first ≡ length log = ap length f ∙ written-long log 0 head (omega arith) in
-      let two : second ≡ written log 0 (head ++ middle)
-      = passed-written (omega arith) s ∙ rw f (written-more log 0 _ head middle (omega arith) (omega arith)) in
+      let two : second ≡ written log 0 (head ++ middle) = s ∙ rw f (written-more log 0 _ head middle (omega arith) (omega arith)) in
       t ∙ rw two (written-more log 0 _ (head ++ middle) end (omega (arith, length-append head middle)) (omega arith)) ∙ written-front log _
+
+  pub layout-written : (l : Layout A) (log first second third : List ℕ) → layout-size turns l ≤ length log
+      → first ≡ written log 0 (map (show 0) (l .head))
+      → Passed (length (l .head)) (l .passes) first second
+      → third ≡ written second (length (l .head) + length (all-rows (l .passes)) * turns) (map (show 0) (l .end))
+      → third ≡ in-front (lines show turns l) log
+  layout-written l log first second third room f s t =
+      let head-count = length-map (l .head) (show 0) in
+      let long : length first ≡ length log = ap length f ∙ written-long log 0 (map (show 0) (l .head)) (omega arith) in
+      layout-passed l log first second third room f (passed-written (omega arith) s) t
 
 -- a loop over the table that writes a pass of rows: each turn's values are what the rows show; `behind` entries follow the pass
 module _ (c : Case) (table : List ℕ) (pass : List Row) (start : ℕ) where

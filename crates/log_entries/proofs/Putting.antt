@@ -1,14 +1,13 @@
 -- How the loop writes entries one after the other.
-use mathlib.Core.Path.{_≡_, refl, sym, ap, ap₂, _∙_}
+use mathlib.Core.Path.{_≡_, refl, sym, ap, _∙_}
 use mathlib.Core.List.{List, [], _∷_}
 use Prim.Native.Nat.{ℕ, zero, suc, _+_, _≤_, _<_}
 use native.Mathlib.Nat.{le-of-suc-le-suc, not-suc-le-zero}
-use native.Mathlib.Numerals.{add-one}
 use native.Mathlib.Omega.{arith}
-use lib.ListN.{length, getD, set, length-set}
-use lib.Seq.{paste, paste-zero, paste-suc, take-length}
+use lib.ListN.{length, getD, set}
 use Rattle.lookup.specs.Entry.{entry}
 use Rattle.buffers.specs.Written.{written}
+use Rattle.buffers.proofs.Pasting.{Pasting, pasting-turns, pasting-ends}
 use Rattle.log_entries.specs.Entries.{entries}
 
 pub entries-long : (ks vs : List ℕ) → length ks ≡ length vs → length (entries ks vs) ≡ length ks
@@ -25,32 +24,19 @@ entries-at (k ∷ ks) (v ∷ vs) zero e h = refl
 entries-at (k ∷ ks) (v ∷ vs) (suc i) e h = entries-at ks vs i (omega arith) (le-of-suc-le-suc h)
 
 -- the log after the first i entries
-pub record Putting (before now : List ℕ) (position : ℕ) (kinds values : List ℕ) (i : ℕ) : Type 0 where
-  pub pasted : now ≡ paste before position (entries kinds values) i
-  pub within : i ≤ length kinds
-  pub long : length now ≡ length before
-
-pub putting-begins : (log : List ℕ) (position : ℕ) (kinds values : List ℕ) → Putting log log position kinds values 0
-putting-begins log position kinds values =
-    record { pasted = paste-zero log position (entries kinds values); within = omega arith; long = refl }
+abbrev pub Putting : (before now : List ℕ) → (position : ℕ) → (kinds values : List ℕ) → (i : ℕ) → Type 0
+Putting before now position kinds values i = Pasting before now position (entries kinds values) i
 
 pub putting-turns : (before now : List ℕ) (position : ℕ) (kinds values : List ℕ) (i value e : ℕ) → length kinds ≡ length values
     → position + length kinds ≤ length before
     → i < length kinds → Putting before now position kinds values i → value ≡ getD values i 0 → e ≡ entry (getD kinds i 0) value
     → Putting before (set now (position + i) e) position kinds values (i + 1)
 putting-turns before now position kinds values i value e same room h p v is =
-    record {
-      pasted =
-          ap₂ (λ l v. set l (position + i) v) (p .pasted) (is ∙ rw v (sym (entries-at kinds values i same h)))
-          ∙ paste-suc before position (entries kinds values) i 0 (omega arith) (omega (arith, entries-long kinds values same))
-          ∙ rw add-one;
-      within = omega arith;
-      long = simp length-set (p .long);
-    }
+    let count = entries-long kinds values same in
+    pasting-turns before position (entries kinds values) now i e (omega (arith, count)) (omega (arith, count))
+    (is ∙ rw v (sym (entries-at kinds values i same h))) p
 
 pub putting-ends : (before now : List ℕ) (position : ℕ) (kinds values : List ℕ) (i : ℕ) → length kinds ≡ length values → length kinds ≤ i
     → Putting before now position kinds values i → now ≡ written before position (entries kinds values)
-unfolding written
 putting-ends before now position kinds values i same h p =
-    let whole : i ≡ length (entries kinds values) = omega (arith, entries-long kinds values same, p .within) in
-    p .pasted ∙ rw (whole, take-length)
+    pasting-ends before position (entries kinds values) now i (omega (arith, entries-long kinds values same)) p

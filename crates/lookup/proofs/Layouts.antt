@@ -96,7 +96,7 @@ module _ {A B : Type 0} (f : ℕ → A → ℕ) (g : ℕ → B → ℕ) (turns :
     pub passes : Same-passes (k .passes) (l .passes)
     pub end : map (f 0) (k .end) ≡ map (g 0) (l .end)
 
-  pass-same : (count : ℕ) (p : List A) (q : List B) → ((a : ℕ) → a < count → map (f a) p ≡ map (g a) q)
+  pub pass-same : (count : ℕ) (p : List A) (q : List B) → ((a : ℕ) → a < count → map (f a) p ≡ map (g a) q)
       → pass-lines f count p ≡ pass-lines g count q
   unfolding pass-lines
   pass-same zero p q h = refl
@@ -127,7 +127,7 @@ module _ {A : Type 0} (f g : ℕ → A → ℕ) (turns : ℕ) where
   lines-agree l first middle last =
       lines-same f g turns l l (record { head = rows-agree first; passes = passes-agree (l .passes) middle; end = rows-agree last })
 
--- what the first turn of the first pass shows, and what the end shows, by their positions
+-- what the first turn of a pass shows, and what the end shows, by their positions
 module _ {A : Type 0} (show : ℕ → A → ℕ) where
   first-of-pass : (turns : ℕ) (pass : List A) (rest : List ℕ) (i : ℕ) → i < length pass
       → at (pass-lines show (suc turns) pass ++ rest) i ≡ at (map (show 0) pass) i
@@ -137,18 +137,32 @@ module _ {A : Type 0} (show : ℕ → A → ℕ) where
       ap (λ ls. getD ls i 0) (append-assoc (pass-lines show (suc a) pass) (map (show (suc a)) pass) rest)
       ∙ first-of-pass a pass (map (show (suc a)) pass ++ rest) i h
 
-  pub at-first-turn : (turns : ℕ) (head pass : List A) (passes : List (List A)) (end : List A) (i : ℕ) → i < length pass
-      → at (lines show (suc turns) (record { head = head; passes = pass ∷ passes; end = end })) (length head + i) ≡ at (map (show 0) pass) i
+  passes-both : (turns : ℕ) (ps qs : List (List A)) → passes-lines show turns (ps ++ qs) ≡ passes-lines show turns ps ++ passes-lines show turns qs
+  unfolding passes-lines
+  passes-both turns [] qs = refl
+  passes-both turns (p ∷ ps) qs = ap (λ ls. pass-lines show turns p ++ ls) (passes-both turns ps qs) ∙ sym (append-assoc (pass-lines show turns p) _ _)
+
+  pub at-first-turn : (turns : ℕ) (head : List A) (before : List (List A)) (pass : List A) (behind : List (List A)) (end : List A) (i : ℕ)
+      → i < length pass
+      → at (lines show (suc turns) (record { head = head; passes = before ++ pass ∷ behind; end = end }))
+      (length head + length (all-rows before) * suc turns + i)
+      ≡ at (map (show 0) pass) i
   unfolding lines passes-lines at
-  at-first-turn turns head pass passes end i h =
-      let behind = passes-lines show (suc turns) passes ++ map (show 0) end in
-      ap (λ ls. getD ls (length head + i) 0)
-      (regrouped (map (show 0) head) (pass-lines show (suc turns) pass) (passes-lines show (suc turns) passes) (map (show 0) end))
-      ∙ rw (← (length-map head (show 0))) (getD-append-add (map (show 0) head) (pass-lines show (suc turns) pass ++ behind) i 0)
-      ∙ first-of-pass turns pass behind i h
+  at-first-turn turns head before pass behind end i h =
+      let one = map (show 0) head in
+      let two = passes-lines show (suc turns) before in
+      let here = pass-lines show (suc turns) pass in
+      let later = passes-lines show (suc turns) behind in
+      let last = map (show 0) end in
+      let long : length (one ++ two) ≡ length head + length (all-rows before) * suc turns
+      = length-append one two ∙ rw (length-map head (show 0), passes-long show (suc turns) before) in
+      ap (λ ls. getD (one ++ ls ++ last) (length head + length (all-rows before) * suc turns + i) 0) (passes-both (suc turns) before (pass ∷ behind))
+      ∙ ap (λ ls. getD ls (length head + length (all-rows before) * suc turns + i) 0) (regrouped one two here later last)
+      ∙ rw (← long) (getD-append-add (one ++ two) (here ++ (later ++ last)) i 0)
+      ∙ first-of-pass turns pass (later ++ last) i h
     where
-      regrouped : (a b c d : List ℕ) → a ++ (b ++ c) ++ d ≡ a ++ (b ++ (c ++ d))
-      regrouped a b c d = simp append-assoc
+      regrouped : (a b c d e : List ℕ) → a ++ (b ++ (c ++ d)) ++ e ≡ a ++ b ++ (c ++ (d ++ e))
+      regrouped a b c d e = simp append-assoc
 
   pub at-end : (turns : ℕ) (l : Layout A) (i : ℕ)
       → at (lines show turns l) (length (l .head) + length (all-rows (l .passes)) * turns + i) ≡ at (map (show 0) (l .end)) i

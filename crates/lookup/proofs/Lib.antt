@@ -1,4 +1,4 @@
--- The laws of both methods, and the proofs of what is promised.
+-- The laws of the methods, and the proofs of what is promised.
 pub mod Each
 pub mod Methods
 pub mod Entry
@@ -7,6 +7,7 @@ pub mod Accepted
 pub mod Refused
 pub mod Second
 pub mod Third
+pub mod Fifth
 pub mod Layouts
 pub mod Right
 pub mod Runs

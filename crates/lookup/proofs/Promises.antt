@@ -1,13 +1,14 @@
 -- What is promised of an accepted lookup holds.
-use mathlib.Core.Path.{_≡_, refl, sym, ap, _∙_}
+use mathlib.Core.Path.{_≡_, refl, sym, ap, subst, _∙_}
 use mathlib.Core.Logic.{inl, inr}
+use mathlib.Core.Bool.{_||_, or-false}
 use mathlib.Core.List.{List, map}
-use Prim.Native.Nat.{ℕ, max, _%_, _^_, _<_}
+use Prim.Native.Nat.{ℕ, max, _+_, _%_, _^_, _≤_, _<_}
 use native.Mathlib.Omega.{arith}
-use lib.ListN.{replicate}
+use lib.ListN.{length, replicate}
 use lib.Pow.{pow-pos}
 use Rattle.bits.specs.Xor.{_⊕_}
-use Rattle.bits.proofs.Xor.{xors, below}
+use Rattle.bits.proofs.Xor.{xors, assoc, below}
 use Rattle.table.specs.Balanced.{at}
 use Rattle.lookup.specs.declared.Case.{Case}
 use Rattle.lookup.specs.Case.{Q}
@@ -16,17 +17,19 @@ use Rattle.lookup.specs.NarrowEntry.{narrow-entry, narrow-kind-of, narro
 use Rattle.lookup.specs.Layout.{lines}
 use Rattle.lookup.specs.Row.{Row, row-entry, masked}
 use Rattle.lookup.specs.Method.{Method}
-use Rattle.lookup.specs.Methods.{found, method-of}
+use Rattle.lookup.specs.Methods.{among, found, known, method-of}
 use Rattle.lookup.specs.Call.{answer, scratch-after, log-of, log-length, scratch-length}
-use Rattle.lookup.specs.Promises.{Answer-right, Answer-small, Answer-kept, Rest-kept, Began-clean, Zeros-taken, Cleared-taken}
+use Rattle.lookup.specs.Promises.{Methods-known, Answer-right, Answer-small, Answers-agree, Answer-kept}
+use Rattle.lookup.specs.Promises.{Rest-kept, Began-clean, Zeros-taken, Cleared-taken}
 use Rattle.lookup.specs.Promises.{Lengths-right, Log-long, Values-small, Log-read-back, Entry-read-back, Wide-as-narrow}
 use Rattle.lookup.proofs.Each.{Each, each-map, each-at}
-use Rattle.lookup.proofs.Methods.{of-each, method-2-of}
+use Rattle.lookup.proofs.Methods.{of-each, method-2-of, method-5-of}
 use Rattle.lookup.proofs.Entry.{entry-kind, entry-value, value-zero, value-kept, entry-small, byte-fits, none-large}
 use Rattle.lookup.proofs.Entry.{narrow-kind, narrow-value, narrow-small}
 use Rattle.lookup.proofs.Accepted.{Taken, accepted}
 use Rattle.lookup.proofs.Refused.{Clean, zeros-clean, zeros-before, cleared, log-not-refused, logged-plain, plain-by-case, logged-by-plain}
 use Rattle.lookup.proofs.Second.{byte-r3}
+use Rattle.lookup.proofs.Fifth.{byte-x0, answer-5-is}
 use Rattle.lookup.proofs.Layouts.{lines-long, each-line, at-map, lines-map, lines-agree}
 use Rattle.lookup.proofs.Right.{Small, value-byte, Right, right}
 
@@ -39,7 +42,11 @@ pub answer-is : (c : Case) (table : List ℕ) → Taken c table → answer c tab
 unfolding answer
 answer-is c table taken =
     let k = taken .1 in
-    taken-right c table taken .answers c table (k .r1) (k .r2) (k .r3) (k .b)
+    taken-right c table taken .answers c table (k .x0) (k .r1) (k .r2) (k .r3) (k .b)
+
+pub methods-known : Methods-known
+unfolding Methods-known known among
+methods-known method = simp or-false
 
 pub answer-right : Answer-right
 unfolding Answer-right masked
@@ -51,13 +58,28 @@ answer-small table c e =
     let taken = accepted c table e in
     rw (answer-is c table taken) (below (c .m) (below (c .m) (taken .1 .table .small _) (taken .1 .s1)) (taken .1 .s2))
 
+pub answers-agree : Answers-agree
+unfolding Answers-agree masked
+answers-agree table c d e f secret s1 s2 =
+    let index : c .x0 ⊕ (c .r1 ⊕ c .r2) ≡ d .x0 ⊕ (d .r1 ⊕ d .r2) = simp assoc at secret in
+    let same : masked c table (c .r1 ⊕ c .r2) ≡ masked d table (d .r1 ⊕ d .r2) = rw (index, s1, s2) in
+    answer-is c table (accepted c table e) ∙ same ∙ sym (answer-is d table (accepted d table f))
+
 pub answer-kept : Answer-kept
-unfolding Answer-kept scratch-after
-answer-kept table scratch c e m room =
+unfolding Answer-kept scratch-after scratch-length Q
+answer-kept table scratch c e room =
     let taken = accepted c table e in
-    ap (λ (k : Method). at (k .scratch c table scratch) (c .r3)) (method-2-of (c .method) m)
-    ∙ byte-r3 c table scratch room (taken .1 .r1) (taken .1 .r2) (taken .1 .r3)
-    ∙ sym (answer-is c table taken)
+    let k = taken .1 in (
+      λ m.
+          let found = method-2-of (c .method) m in
+          let long = subst (λ (f : Method). f .scratch-length (2 ^ c .n) ≤ length scratch) found room in
+          ap (λ (f : Method). at (f .scratch c table scratch) (c .r3)) found
+          ∙ byte-r3 c table scratch long (k .r1) (k .r2) (k .r3) ∙ sym (answer-is c table taken),
+      λ m.
+          ap (λ (f : Method). at (f .scratch c table scratch) (Q c + c .x0)) (method-5-of (c .method) m)
+          ∙ byte-x0 c table scratch (k .x0)
+          ∙ answer-5-is c table (k .x0) (k .r2) ∙ sym (answer-is c table taken),
+    )
 
 pub rest-kept : Rest-kept
 unfolding Rest-kept scratch-after scratch-length Q
@@ -84,7 +106,7 @@ cleared-taken table size c h = plain-by-case c table (replicate size 0) (cleared
 
 pub lengths-right : Lengths-right
 unfolding Lengths-right log-length scratch-length method-of found
-lengths-right n = (omega arith, omega arith, refl, refl)
+lengths-right n = (omega arith, omega arith, omega arith, refl, refl, refl)
 
 -- the log, its entries packed in some way
 abbrev packed-log : (pack : ℕ → ℕ → ℕ) → Case → (table : List ℕ) → List ℕ

@@ -10,6 +10,7 @@ use lib.ListN.{drop}
 use lib.Pow.{pow-mono}
 use Rattle.bits.specs.Xor.{_⊕_}
 use Rattle.bits.proofs.Xor.{below}
+use Rattle.table.specs.Balanced.{at}
 use Rattle.lookup.specs.declared.Case.{Case}
 use Rattle.lookup.specs.Case.{Q}
 use Rattle.lookup.specs.Layout.{all-rows, layout-size}
@@ -17,10 +18,12 @@ use Rattle.lookup.specs.Row.{Row, _∶_, Value, masked}
 use Rattle.lookup.specs.Method.{Method}
 use Rattle.lookup.specs.Method2.{answer-2, head-2, pass-2, end-2, method-2}
 use Rattle.lookup.specs.Method3.{place-3, answer-3, head-3, pass-3, end-3, method-3}
+use Rattle.lookup.specs.Method5.{copied, first-half, answer-5, head-5, first-pass-5, second-pass-5, end-5, method-5}
 use Rattle.lookup.specs.Methods.{methods}
 use Rattle.lookup.proofs.Accepted.{Accepted}
 use Rattle.lookup.proofs.Second.{answer-2-is, beyond, r-prime-below}
 use Rattle.lookup.proofs.Third.{answer-3-is, compared-small, scratch-3-rest}
+use Rattle.lookup.proofs.Fifth.{read-is, copied-is, answer-5-is, scratch-5-rest}
 use Rattle.lookup.proofs.Each.{Each, none, more, each-append}
 
 pub record Small (c : Case) (table : List ℕ) (a : ℕ) (row : Row) : Type 0 where
@@ -33,13 +36,13 @@ pub value-byte : {method : Method} {c : Case} {table : List ℕ} {a : ℕ} {row 
 value-byte k s = lt-of-lt-of-le (s .value) (pow-mono (max-le (k .table .input-most) (k .table .output-most)))
 
 pub record Right (method : Method) : Type 0 where
-  pub answers : (c : Case) (table : List ℕ) → c .r1 < Q c → c .r2 < Q c → c .r3 < Q c → c .b ≤ method .b-most
+  pub answers : (c : Case) (table : List ℕ) → c .x0 < Q c → c .r1 < Q c → c .r2 < Q c → c .r3 < Q c → c .b ≤ method .b-most
       → method .answer c table ≡ masked c table (c .r1 ⊕ c .r2)
   pub rest : (c : Case) (table scratch : List ℕ) → Accepted method c table
       → drop (method .scratch-length (Q c)) (method .scratch c table scratch) ≡ drop (method .scratch-length (Q c)) scratch
   pub bit : method .b-most < 2
   pub short : (turns : ℕ) → layout-size turns (method .layout) ≤ 9 * turns + 10
-  pub lean : (inputs : ℕ) → method .scratch-length inputs ≤ inputs
+  pub lean : (inputs : ℕ) → method .scratch-length inputs ≤ 2 * inputs
   pub head : (c : Case) (table : List ℕ) → Accepted method c table → Each (Small c table 0) (method .layout .head)
   pub passes : (c : Case) (table : List ℕ) → Accepted method c table → (a : ℕ) → a < Q c
       → Each (Small c table a) (all-rows (method .layout .passes))
@@ -104,14 +107,38 @@ module _ (method : Method) (c : Case) (table : List ℕ) (k : Accepted method c 
         let answered : answer-3 c table < 2 ^ c .m = rw (answer-3-is c table hb (k .r1) (k .r2) (k .r3)) (masked-small _) in
         more (bit 6 tt hb) (more (output 16 tt answered) none)
 
+  once-small : (i : ℕ) → at table i ⊕ c .s1 < 2 ^ c .m
+  once-small i = below (c .m) (k .table .small i) (k .s1)
+
+  head-small-5 : Each (Small c table 0) head-5
+  head-small-5 =
+      more (input 1 tt (k .x0)) (more (input 2 tt (k .r1)) (more (input 3 tt (k .r2)) (more (output 4 tt (k .s1)) (more (output 5 tt (k .s2)) none))))
+
+  first-small-5 : (a : ℕ) → a < Q c → Each (Small c table a) first-pass-5
+  unfolding copied
+  first-small-5 a h =
+      more (input 6 tt h) (more (input 7 tt (add h (k .r1))) (more (output 8 tt (k .table .small _)) (more (output 9 tt (once-small _)) none)))
+
+  second-small-5 : (a : ℕ) → a < Q c → Each (Small c table a) second-pass-5
+  second-small-5 a h =
+      let first = first-half c table in
+      let once : at first (a ⊕ c .r2) < 2 ^ c .m = rw (read-is c table a h (k .r2)) (once-small _) in
+      let twice : copied (c .r2) (c .s2) first a < 2 ^ c .m = rw (copied-is c table a h (k .r2)) (below (c .m) (once-small _) (k .s2)) in
+      more (input 6 tt h) (more (input 10 tt (add h (k .r2))) (more (output 11 tt once) (more (output 12 tt twice) none)))
+
+  end-small-5 : Each (Small c table 0) end-5
+  end-small-5 =
+      let answered : answer-5 c table < 2 ^ c .m = rw (answer-5-is c table (k .x0) (k .r2)) (masked-small _) in
+      more (input 1 tt (k .x0)) (more (output 13 tt answered) none)
+
 right-2 : Right method-2
 right-2 =
     record {
-      answers = λ c table h1 h2 h3 hb. answer-2-is c table h1 h2 h3;
+      answers = λ c table h0 h1 h2 h3 hb. answer-2-is c table h1 h2 h3;
       rest = λ c table scratch k. beyond c table (Q c) scratch (r-prime-below c (k .r1) (k .r2) (k .r3)) (le-refl _);
       bit = lit< tt;
       short = λ turns. omega arith;
-      lean = λ inputs. le-refl _;
+      lean = λ inputs. omega arith;
       head = head-small-2 method-2;
       passes = λ c table k a h. each-append (pass-small-2 method-2 c table k a h) none;
       end = end-small-2 method-2;
@@ -120,15 +147,28 @@ right-2 =
 right-3 : Right method-3
 right-3 =
     record {
-      answers = λ c table h1 h2 h3 hb. answer-3-is c table (omega (arith, hb)) h1 h2 h3;
+      answers = λ c table h0 h1 h2 h3 hb. answer-3-is c table (omega (arith, hb)) h1 h2 h3;
       rest = λ c table scratch k. scratch-3-rest c table scratch;
       bit = lit< tt;
       short = λ turns. omega arith;
-      lean = λ inputs. le-refl _;
+      lean = λ inputs. omega arith;
       head = λ c table k. head-small-3 method-3 c table k (omega (arith, k .b));
       passes = λ c table k a h. each-append (pass-small-3 method-3 c table k (omega (arith, k .b)) a h) none;
       end = λ c table k. end-small-3 method-3 c table k (omega (arith, k .b));
     }
 
+right-5 : Right method-5
+right-5 =
+    record {
+      answers = λ c table h0 h1 h2 h3 hb. answer-5-is c table h0 h2;
+      rest = λ c table scratch k. scratch-5-rest c table scratch;
+      bit = lit< tt;
+      short = λ turns. omega arith;
+      lean = λ inputs. omega arith;
+      head = head-small-5 method-5;
+      passes = λ c table k a h. each-append (first-small-5 method-5 c table k a h) (each-append (second-small-5 method-5 c table k a h) none);
+      end = end-small-5 method-5;
+    }
+
 pub right : Each Right methods
-right = more right-2 (more right-3 none)
+right = more right-2 (more right-3 (more right-5 none))

@@ -20,6 +20,6 @@ module _ (method n : ℕ) (is-known : known method ≡ true) (width : n ≤ 8) w
   unfolding log-length
   log-most = omega (arith, proved .short (2 ^ n), inputs)
 
-  pub scratch-most : scratch-length method n ≤ 256
+  pub scratch-most : scratch-length method n ≤ 512
   unfolding scratch-length
   scratch-most = omega (arith, proved .lean (2 ^ n), inputs)

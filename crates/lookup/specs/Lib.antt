@@ -6,6 +6,7 @@ pub mod Row
 pub mod Method
 pub mod Method2
 pub mod Method3
+pub mod Method5
 pub mod Methods
 pub mod NarrowEntry
 pub mod Call

@@ -13,7 +13,8 @@ pub record Method : Type 0 where
   -- the scratch that it leaves, and its answer
   pub scratch : Case → (table scratch : List ℕ) → List ℕ
   pub answer : Case → (table : List ℕ) → ℕ
-  -- the largest b that it takes
+  -- the largest r3 that it takes, for a table of so many entries, and the largest b
+  pub r3-most : (inputs : ℕ) → ℕ
   pub b-most : ℕ
   -- the classes of the masks r1, r2, r3, s1, s2 and b, over which a choice runs
   pub mask-classes : List ℕ
@@ -34,6 +35,7 @@ no-method =
       scratch-length = λ inputs. 0;
       scratch = λ c table scratch. scratch;
       answer = λ c table. 0;
+      r3-most = λ inputs. 0;
       b-most = 0;
       mask-classes = [];
     }

@@ -1,6 +1,6 @@
 -- Method 2: the table is copied to the scratch, masked and in another order.
 use mathlib.Core.List.{List, [], _∷_}
-use Prim.Native.Nat.{ℕ, zero, suc}
+use Prim.Native.Nat.{ℕ, zero, suc, _-_}
 use lib.ListN.{set, replicate}
 use Rattle.bits.specs.Xor.{_⊕_}
 use Rattle.table.specs.Balanced.{at}
@@ -40,6 +40,7 @@ method-2 =
       scratch-length = λ inputs. inputs;
       scratch = λ c table scratch. scratch-2 (Q c) c table scratch;
       answer = answer-2;
+      r3-most = λ inputs. inputs - 1;
       b-most = 0;
       mask-classes = 0 ∷ 0 ∷ 0 ∷ 1 ∷ 1 ∷ 2 ∷ [];
     }

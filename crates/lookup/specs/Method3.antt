@@ -52,6 +52,7 @@ method-3 =
       scratch-length = λ inputs. inputs;
       scratch = λ c table scratch. scratch-3 c scratch;
       answer = answer-3;
+      r3-most = λ inputs. inputs - 1;
       b-most = 1;
       mask-classes = 0 ∷ 0 ∷ 0 ∷ 1 ∷ 1 ∷ 3 ∷ [];
     }

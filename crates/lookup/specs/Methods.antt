@@ -6,9 +6,10 @@ use lib.Dec.{eqb}
 use Rattle.lookup.specs.Method.{Method, no-method}
 use Rattle.lookup.specs.Method2.{method-2}
 use Rattle.lookup.specs.Method3.{method-3}
+use Rattle.lookup.specs.Method5.{method-5}
 
 abbrev pub methods : List Method
-methods = method-2 ∷ method-3 ∷ []
+methods = method-2 ∷ method-3 ∷ method-5 ∷ []
 
 unfoldable pub among : (number : ℕ) → List Method → Bool
 among k [] = false

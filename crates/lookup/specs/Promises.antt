@@ -1,9 +1,10 @@
 -- What is promised of an accepted lookup, and of scratch that is taken. Each is a type; its proof stands in proofs/Promises.antt.
 use mathlib.Core.Path.{_≡_}
 use mathlib.Core.Logic.{_⊎_}
-use mathlib.Core.Bool.{false}
+use mathlib.Core.Bool.{false, _||_}
 use mathlib.Core.List.{List, map}
 use Prim.Native.Nat.{ℕ, max, _+_, _*_, _^_, _≤_, _<_}
+use lib.Dec.{eqb}
 use lib.ListN.{length, take, drop, replicate}
 use Rattle.bits.specs.Xor.{_⊕_}
 use Rattle.refusals.specs.Tests.{any-from}
@@ -13,9 +14,13 @@ use Rattle.lookup.specs.Case.{Q}
 use Rattle.lookup.specs.Entry.{entry, kind-of, value-of}
 use Rattle.lookup.specs.NarrowEntry.{narrow-log, Says-the-same}
 use Rattle.lookup.specs.Layout.{lines}
-use Rattle.lookup.specs.Methods.{method-of}
+use Rattle.lookup.specs.Methods.{known, method-of}
 use Rattle.lookup.specs.Call.{answer, scratch-after, log-of, log-length, scratch-length}
 use Rattle.lookup.specs.Refusals.{case-refusal, plain-refusal, logged-refusal}
+
+-- the methods' numbers
+unfoldable pub Methods-known : Type 0
+Methods-known = (method : ℕ) → known method ≡ (eqb method 2 || (eqb method 3 || eqb method 5))
 
 -- the answer joined with both output masks is the table's entry for the input
 unfoldable pub Answer-right : Type 0
@@ -26,13 +31,22 @@ Answer-right =
 unfoldable pub Answer-small : Type 0
 Answer-small = (table : List ℕ) (c : Case) → case-refusal c table ≡ 0 → answer c table < 2 ^ c .m
 
--- under method 2 the answer stands in the scratch that is left, whatever stood there before (in an accepted call zeros)
+-- two accepted lookups of one secret under the same output masks have the same answer, whatever their methods and their other masks
+unfoldable pub Answers-agree : Type 0
+Answers-agree =
+    (table : List ℕ) (c d : Case) → case-refusal c table ≡ 0 → case-refusal d table ≡ 0
+    → c .x0 ⊕ c .r1 ⊕ c .r2 ≡ d .x0 ⊕ d .r1 ⊕ d .r2 → c .s1 ≡ d .s1 → c .s2 ≡ d .s2 →
+    answer c table ≡ answer d table
+
+-- under methods 2 and 5 the answer stands in the scratch that is left, whatever stood there before (in an accepted call zeros): at byte r3,
+-- and at byte x0 of the second half
 unfoldable pub Answer-kept : Type 0
 Answer-kept =
-    (table scratch : List ℕ) (c : Case) → case-refusal c table ≡ 0 → c .method ≡ 2 → Q c ≤ length scratch →
-    at (scratch-after c table scratch) (c .r3) ≡ answer c table
+    (table scratch : List ℕ) (c : Case) → case-refusal c table ≡ 0 → scratch-length (c .method) (c .n) ≤ length scratch →
+    (c .method ≡ 2 → at (scratch-after c table scratch) (c .r3) ≡ answer c table)
+    × (c .method ≡ 5 → at (scratch-after c table scratch) (Q c + c .x0) ≡ answer c table)
 
--- scratch bytes behind those that the method needs, which are Q under methods 2 and 3, are unchanged
+-- scratch bytes behind those that the method needs, which are Q under methods 2 and 3 and 2Q under method 5, are unchanged
 unfoldable pub Rest-kept : Type 0
 Rest-kept =
     (table scratch : List ℕ) (c : Case) → case-refusal c table ≡ 0 →
@@ -61,8 +75,8 @@ Cleared-taken =
 -- the lengths of log and scratch in numbers
 unfoldable pub Lengths-right : Type 0
 Lengths-right =
-    (n : ℕ) → (log-length 2 n ≡ 10 + 6 * 2 ^ n) × (log-length 3 n ≡ 10 + 9 * 2 ^ n)
-    × (scratch-length 2 n ≡ 2 ^ n) × (scratch-length 3 n ≡ 2 ^ n)
+    (n : ℕ) → (log-length 2 n ≡ 10 + 6 * 2 ^ n) × (log-length 3 n ≡ 10 + 9 * 2 ^ n) × (log-length 5 n ≡ 7 + 8 * 2 ^ n)
+    × (scratch-length 2 n ≡ 2 ^ n) × (scratch-length 3 n ≡ 2 ^ n) × (scratch-length 5 n ≡ 2 * 2 ^ n)
 
 -- the log has its length, and each entry fits 32 bits
 unfoldable pub Log-long : Type 0

@@ -1,5 +1,5 @@
 -- Refusals of the logged and the plain call, as lists in their order.
-use mathlib.Core.Bool.{Bool, not}
+use mathlib.Core.Bool.{Bool, not, _||_}
 use mathlib.Core.List.{List, [], _∷_, _++_}
 use Prim.Native.Nat.{ℕ, _^_}
 use lib.Dec.{ltb}
@@ -16,12 +16,16 @@ use Rattle.lookup.specs.Call.{log-length, scratch-length}
 unfoldable pub method-checks : Case → List Check
 method-checks c = 2 when (not (known (c .method))) ∷ []
 
+-- an r3 or a b that the method does not take
+unfoldable pub untaken : Case → Bool
+untaken c = ltb (method-of (c .method) .r3-most (Q c)) (c .r3) || ltb (method-of (c .method) .b-most) (c .b)
+
 -- 10, 11, 12
 unfoldable pub mask-checks : Case → List Check
 mask-checks c =
     10 when (any-from (Q c) (c .x0 ∷ c .r1 ∷ c .r2 ∷ c .r3 ∷ []))
     ∷ 11 when (any-from (2 ^ c .m) (c .s1 ∷ c .s2 ∷ []))
-    ∷ 12 when (ltb (method-of (c .method) .b-most) (c .b))
+    ∷ 12 when (untaken c)
     ∷ []
 
 -- a byte among the first so many is not zero; those behind them are not looked at

@@ -1,37 +1,31 @@
 -- What the method has that a number finds, is what the definitions say of the number.
 use mathlib.Core.Path.{_≡_, refl, sym, ap, subst, _∙_}
-use mathlib.Core.Logic.{inl, inr}
 use mathlib.Core.Bool.{true, false}
 use mathlib.Core.List.{List, map}
-use Prim.Native.Nat.{ℕ, _^_, _≤_}
+use Prim.Native.Nat.{ℕ, _*_, _-_, _^_, _≤_}
 use native.Mathlib.Omega.{arith}
 use mir.Syntax.{w16}
 use mir.Val.{Fits}
+use borrow.Author.Tests.{eqb-true}
 use lib.ListN.{length}
-use lib.Pow.{pow-mono}
+use lib.Pow.{pow-pos, pow-mono}
 use Rattle.buffers.specs.Written.{in-front}
 use Rattle.lookup.specs.declared.Case.{Case}
 use Rattle.lookup.specs.Case.{Q}
 use Rattle.lookup.specs.Layout.{lines, layout-size}
 use Rattle.lookup.specs.Row.{row-entry}
 use Rattle.lookup.specs.Method.{Method, class-width, no-method}
-use Rattle.lookup.specs.Method3.{method-3}
+use Rattle.lookup.specs.Method5.{method-5}
 use Rattle.lookup.specs.Methods.{known, method-of}
 use Rattle.lookup.specs.Call.{answer, scratch-after, log-of, log-length, scratch-length}
-use Rattle.lookup.proofs.Methods.{method-3-of, known-2-or-3, two-or-three, not-known}
+use Rattle.lookup.proofs.Methods.{method-5-of, last-known, not-known}
 
-pub known-2 : (k : ℕ) → k ≡ 2 → true ≡ known k
-known-2 k e = sym (known-2-or-3 (inl e))
+pub known-none : (k : ℕ) → (k ≡ 2 → ⊥) → (k ≡ 3 → ⊥) → (k ≡ 5 → ⊥) → false ≡ known k
+known-none k not-2 not-3 not-5 = sym (not-known k not-2 not-3 not-5)
 
-pub known-3 : (k : ℕ) → k ≡ 3 → true ≡ known k
-known-3 k e = sym (known-2-or-3 (inr e))
-
-pub known-none : (k : ℕ) → (k ≡ 2 → ⊥) → (k ≡ 3 → ⊥) → false ≡ known k
-known-none k h j = sym (not-known k h j)
-
--- a known method that is not 2 is 3
-pub other-3-of : (k : ℕ) → known k ≡ true → (k ≡ 2 → ⊥) → method-of k ≡ method-3
-other-3-of k e not-2 = elim (two-or-three k e) [ inl p ↦ absurd (not-2 p) | inr p ↦ method-3-of k p ]
+-- a known method that is neither 2 nor 3 is 5
+pub other-5-of : (k : ℕ) → known k ≡ true → (k ≡ 2 → ⊥) → (k ≡ 3 → ⊥) → method-of k ≡ method-5
+other-5-of k e not-2 not-3 = method-5-of k (eqb-true k 5 (sym (last-known k not-2 not-3) ∙ e))
 
 -- as many turns as a table has entries
 pub turns-fit : (turns n : ℕ) → turns ≡ 2 ^ n → n ≤ 8 → Fits w16 turns
@@ -39,10 +33,29 @@ turns-fit turns n e h =
     let most : 2 ^ n ≤ 256 = pow-mono h in
     record { fits = omega arith }
 
+pub twice-fit : (turns n : ℕ) → turns ≡ 2 ^ n → n ≤ 8 → Fits w16 (2 * turns)
+twice-fit turns n e h =
+    let most : 2 ^ n ≤ 256 = pow-mono h in
+    record { fits = omega arith }
+
+-- what `power` told is never 0; twice as much, and one less
+module _ (inputs n : ℕ) (e : inputs ≡ 2 ^ n) where
+  pub power-some : 1 ≤ inputs
+  power-some = rw e (pow-pos n)
+
+  pub power-twice : 2 * inputs ≡ 2 * 2 ^ n
+  power-twice = rw e
+
+  pub power-less : inputs - 1 ≡ 2 ^ n - 1
+  power-less = rw e
+
 -- the method m is what the number k finds
 module _ (m : Method) (k : ℕ) where
   pub b-most-by : method-of k ≡ m → m .b-most ≡ method-of k .b-most
   b-most-by found = ap (λ (f : Method). f .b-most) (sym found)
+
+  pub r3-most-by : (n told : ℕ) → method-of k ≡ m → told ≡ m .r3-most (2 ^ n) → told ≡ method-of k .r3-most (2 ^ n)
+  r3-most-by n told found e = e ∙ ap (λ (f : Method). f .r3-most (2 ^ n)) (sym found)
 
   pub mask-widths-by : (i o : ℕ) (told : List ℕ) → method-of k ≡ m → told ≡ map (class-width i o) (m .mask-classes)
       → told ≡ map (class-width i o) (method-of k .mask-classes)

@@ -21,6 +21,9 @@ pub fn known(method: u32) -> bool
     if method == 3 {
         return true;
     }
+    if method == 5 {
+        return true;
+    }
     false
 }
 
@@ -34,10 +37,31 @@ pub fn b_most(method: u32) -> u32
     if method == 3 {
         return 1;
     }
+    if method == 5 {
+        return 0;
+    }
     0
 }
 
-// How many bytes of scratch and how many log entries the method needs. The width has been checked, so these have a `requires`.
+// The largest r3 that the method takes; how many bytes of scratch and how many log entries it needs. The width has been checked, so these
+// have a `requires`.
+pub fn r3_most(method: u32, n: u32) -> u32
+    requires { ⌜ n ≤ 8 ⌝ }
+    ensures { λ r. ⌜ r ≡ method-of method .r3-most (2 ^ n) ⌝ }
+{
+    let inputs = bits::power(n);
+    if method == 2 {
+        return inputs - 1;
+    }
+    if method == 3 {
+        return inputs - 1;
+    }
+    if method == 5 {
+        return 0;
+    }
+    0
+}
+
 pub fn scratch_length(method: u32, n: u32) -> u16
     requires { ⌜ n ≤ 8 ⌝ }
     ensures { λ r. ⌜ r ≡ scratch-length method n ⌝ }
@@ -48,6 +72,9 @@ pub fn scratch_length(method: u32, n: u32) -> u16
     }
     if method == 3 {
         return inputs;
+    }
+    if method == 5 {
+        return 2 * inputs;
     }
     0
 }
@@ -63,6 +90,9 @@ pub fn log_length(method: u32, n: u32) -> usize
     if method == 3 {
         return method3::log_length(turns);
     }
+    if method == 5 {
+        return method5::log_length(turns);
+    }
     0
 }
 
@@ -74,7 +104,10 @@ pub fn mask_widths(method: u32, n: u32, m: u32) -> [u32; 6]
     if method == 2 {
         return [n, n, n, m, m, 0];
     }
-    [n, n, n, m, m, 1]
+    if method == 3 {
+        return [n, n, n, m, m, 1];
+    }
+    [n, n, 0, m, m, 0]
 }
 
 // The method's run. The call has checked the case and measured the buffers, so these have a `requires`.
@@ -89,10 +122,12 @@ pub fn run_logged(case: Case, table: &[u8], scratch: &mut [u8], log: &mut [u32])
     ensures { λ _. ⌜ now (log .exit) ≡ in-front (log-of case (now (table .entry))) (now (log .entry)) ⌝ }
 {
     if case.method == 2 {
-        method2::logged::run(case, table, scratch, log)
-    } else {
-        method3::logged::run(case, table, scratch, log)
+        return method2::logged::run(case, table, scratch, log);
     }
+    if case.method == 3 {
+        return method3::logged::run(case, table, scratch, log);
+    }
+    method5::logged::run(case, table, scratch, log)
 }
 
 pub fn run(case: Case, table: &[u8], scratch: &mut [u8]) -> u8
@@ -104,8 +139,10 @@ pub fn run(case: Case, table: &[u8], scratch: &mut [u8]) -> u8
     ensures { λ _. ⌜ now (scratch .exit) ≡ scratch-after case (now (table .entry)) (now (scratch .entry)) ⌝ }
 {
     if case.method == 2 {
-        method2::run(case, table, scratch)
-    } else {
-        method3::run(case, table, scratch)
+        return method2::run(case, table, scratch);
     }
+    if case.method == 3 {
+        return method3::run(case, table, scratch);
+    }
+    method5::run(case, table, scratch)
 }

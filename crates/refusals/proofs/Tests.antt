@@ -16,6 +16,9 @@ pub neither : (a b : Bool) → (a || b) ≡ false → (a ≡ false) × (b ≡ fa
 neither true b e = absurd (true≢false e)
 neither false b e = (refl, e)
 
+pub neither-of : {a b : Bool} → a ≡ false → b ≡ false → (a || b) ≡ false
+neither-of d e = rw (d, e)
+
 -- a number that is not outside is within
 pub inside : (low high value : ℕ) → outside low high value ≡ false → (low ≤ value) × (value ≤ high)
 unfolding outside

@@ -1,4 +1,4 @@
--- The leak test passes on every two rows of both methods, at any two turns; where it does, every two lines of a log pass it.
+-- The leak test passes on every two rows of each method, at any two turns; where it does, every two lines of a log pass it.
 use mathlib.Core.Bool.{Bool}
 use mathlib.Core.List.{List, [], _∷_, _++_, map}
 use Prim.Native.Nat.{ℕ}
@@ -11,10 +11,11 @@ use Rattle.probing.specs.Test.{fine, all-fine}
 use Rattle.lookup.specs.Layout.{Layout, lines, all-rows}
 use Rattle.lookup.specs.Method2.{method-2}
 use Rattle.lookup.specs.Method3.{method-3}
+use Rattle.lookup.specs.Method5.{method-5}
 use Rattle.lookup.proofs.Each.{Each, none, more, each-first, each-rest, each-split, each-all, each-map, each-at, each-source}
 use Rattle.lookup.proofs.Layouts.{each-line}
 use Rattle.secrecy.specs.Count.{single}
-use Rattle.secrecy.specs.Expressions.{Shown, nothing, shown-2, shown-3, system, alone}
+use Rattle.secrecy.specs.Expressions.{Shown, nothing, shown-2, shown-3, shown-5, system, alone}
 
 abbrev pub at-turn : (turn : ℕ) → Shown → Expression
 at-turn a e = e a
@@ -63,3 +64,7 @@ fine-2 a a' = tt
 pub fine-3 : (a a' : ℕ) → T (all-fine (system (method-3 .mask-classes)) (rows-at (shown-3 (alone single)) a) (rows-at (shown-3 (alone single)) a'))
 unfolding all-fine
 fine-3 a a' = tt
+
+pub fine-5 : (a a' : ℕ) → T (all-fine (system (method-5 .mask-classes)) (rows-at (shown-5 (alone single)) a) (rows-at (shown-5 (alone single)) a'))
+unfolding all-fine
+fine-5 a a' = tt

@@ -1,11 +1,13 @@
 -- What is proved of each method's secrecy: its masks are drawn in their widths, all that are in their widths are drawn, its rows pass the leak
 -- test, and they show its values.
-use mathlib.Core.Path.{_≡_, refl}
+use mathlib.Core.Path.{_≡_, refl, sym}
 use mathlib.Core.List.{List, [], _∷_, map}
 use Prim.Native.Nat.{ℕ, suc, _^_, _≤_, _<_}
+use native.Mathlib.Nat.{lt-of-lt-of-le, le-refl}
 use native.Mathlib.Omega.{arith}
 use lib.Dec.{T}
 use lib.ListN.{length, drop}
+use lib.Pow.{pow-mono, suc-ones}
 use Rattle.counting.specs.Choice.{width, Within}
 use Rattle.counting.proofs.Choice.{within-none, within-more}
 use Rattle.counting.proofs.Append.{appended}
@@ -15,19 +17,21 @@ use Rattle.lookup.specs.Layout.{Layout}
 use Rattle.lookup.specs.Method.{Method, class-width}
 use Rattle.lookup.specs.Method2.{method-2}
 use Rattle.lookup.specs.Method3.{method-3}
+use Rattle.lookup.specs.Method5.{method-5}
 use Rattle.lookup.specs.Methods.{methods}
 use Rattle.lookup.proofs.Each.{Each, none, more}
 use Rattle.lookup.proofs.Layouts.{Same-rows}
 use Rattle.secrecy.specs.Count.{single, chosen-case}
-use Rattle.secrecy.specs.Expressions.{Call-places, Shown, shown-2, shown-3, system, alone, setting, secrets}
-use Rattle.secrecy.proofs.Fine.{rows-at, fine-2, fine-3}
-use Rattle.secrecy.proofs.Shown.{Stands, row-value, expression-value, shows-2, shows-3}
+use Rattle.secrecy.specs.Expressions.{Call-places, Shown, shown-2, shown-3, shown-5, system, alone, setting, secrets}
+use Rattle.secrecy.proofs.Fine.{rows-at, fine-2, fine-3, fine-5}
+use Rattle.secrecy.proofs.Shown.{Stands, row-value, expression-value, shows-2, shows-3, shows-5}
 
 -- a single call's masks, as a method draws them
 pub record Drawn (method : Method) (n m : ℕ) (c : ℕ → ℕ) : Type 0 where
   pub r1 : c 0 < 2 ^ n
   pub r2 : c 1 < 2 ^ n
   pub r3 : c 2 < 2 ^ n
+  pub r3-taken : c 2 ≤ method .r3-most (2 ^ n)
   pub s1 : c 3 < 2 ^ m
   pub s2 : c 4 < 2 ^ m
   pub b : c 5 ≤ method .b-most
@@ -45,17 +49,40 @@ pub record Hiding (method : Method) : Type 0 where
       → Same-rows (row-value (chosen-case (s .masks) number n m x masks) table) (expression-value setting secrets masks) (2 ^ n)
       (method .layout) (rows s)
 
--- a method that draws r3 of the input's width and takes every b of its class: what is drawn is within the widths, and all within them is drawn
-module _ (method : Method) (bit : ℕ) (values : (n m : ℕ) → 2 ^ class-width n m bit ≡ suc (method .b-most)) (n m : ℕ) (c : ℕ → ℕ) where
-  pub drawn-with : Within (map (class-width n m) (0 ∷ 0 ∷ 0 ∷ 1 ∷ 1 ∷ bit ∷ [])) c → Drawn method n m c
+-- a method takes every r3 and every b of its class, as large as the input's width at most: what is drawn is within the widths, and all within
+-- them is drawn
+pub record Classes (method : Method) (third bit : ℕ) : Type 0 where
+  pub thirds : (n m : ℕ) → 2 ^ class-width n m third ≡ suc (method .r3-most (2 ^ n))
+  pub bits : (n m : ℕ) → 2 ^ class-width n m bit ≡ suc (method .b-most)
+  pub narrow : (n m : ℕ) → class-width n m third ≤ n
+
+module _ (method : Method) (third bit : ℕ) (k : Classes method third bit) (n m : ℕ) (c : ℕ → ℕ) where
+  pub drawn-with : Within (map (class-width n m) (0 ∷ 0 ∷ third ∷ 1 ∷ 1 ∷ bit ∷ [])) c → Drawn method n m c
   unfolding width
   drawn-with w =
-      record { r1 = w .each 0; r2 = w .each 1; r3 = w .each 2; s1 = w .each 3; s2 = w .each 4; b = omega (arith, w .each 5, values n m) }
+      record {
+        r1 = w .each 0;
+        r2 = w .each 1;
+        r3 = lt-of-lt-of-le (w .each 2) (pow-mono (k .narrow n m));
+        r3-taken = omega (arith, w .each 2, k .thirds n m);
+        s1 = w .each 3;
+        s2 = w .each 4;
+        b = omega (arith, w .each 5, k .bits n m);
+      }
 
-  pub whole-with : Drawn method n m c → Within (map (class-width n m) (0 ∷ 0 ∷ 0 ∷ 1 ∷ 1 ∷ bit ∷ [])) (appended 6 c (λ i. 0))
+  pub whole-with : Drawn method n m c → Within (map (class-width n m) (0 ∷ 0 ∷ third ∷ 1 ∷ 1 ∷ bit ∷ [])) (appended 6 c (λ i. 0))
   whole-with d =
-      within-more (d .r1) (within-more (d .r2) (within-more (d .r3) (within-more (d .s1) (within-more (d .s2)
-      (within-more (omega (arith, d .b, values n m)) within-none)))))
+      within-more (d .r1) (within-more (d .r2) (within-more (omega (arith, d .r3-taken, k .thirds n m)) (within-more (d .s1) (within-more (d .s2)
+      (within-more (omega (arith, d .b, k .bits n m)) within-none)))))
+
+pub classes-2 : Classes method-2 0 2
+classes-2 = record { thirds = λ n m. sym (suc-ones n); bits = λ n m. refl; narrow = λ n m. le-refl n }
+
+pub classes-3 : Classes method-3 0 3
+classes-3 = record { thirds = λ n m. sym (suc-ones n); bits = λ n m. refl; narrow = λ n m. le-refl n }
+
+pub classes-5 : Classes method-5 2 2
+classes-5 = record { thirds = λ n m. refl; bits = λ n m. refl; narrow = λ n m. omega arith }
 
 abbrev pub hiding-2 : Hiding method-2
 hiding-2 =
@@ -64,8 +91,8 @@ hiding-2 =
       inputs = refl;
       rows = shown-2;
       fine = fine-2;
-      drawn = drawn-with method-2 2 (λ n m. refl);
-      whole = whole-with method-2 2 (λ n m. refl);
+      drawn = drawn-with method-2 0 2 classes-2;
+      whole = whole-with method-2 0 2 classes-2;
       shown = shows-2;
     }
 
@@ -76,13 +103,25 @@ hiding-3 =
       inputs = refl;
       rows = shown-3;
       fine = fine-3;
-      drawn = drawn-with method-3 3 (λ n m. refl);
-      whole = whole-with method-3 3 (λ n m. refl);
+      drawn = drawn-with method-3 0 3 classes-3;
+      whole = whole-with method-3 0 3 classes-3;
       shown = shows-3;
     }
 
+abbrev pub hiding-5 : Hiding method-5
+hiding-5 =
+    record {
+      six = refl;
+      inputs = refl;
+      rows = shown-5;
+      fine = fine-5;
+      drawn = drawn-with method-5 2 2 classes-5;
+      whole = whole-with method-5 2 2 classes-5;
+      shown = shows-5;
+    }
+
 pub hiding : Each Hiding methods
-hiding = more hiding-2 (more hiding-3 none)
+hiding = more hiding-2 (more hiding-3 (more hiding-5 none))
 
 -- a single call's masks and secrets stand where its rows say
 pub stands-alone : (method : Method) (n m x : ℕ) (table : List ℕ) (c : ℕ → ℕ) → x < 2 ^ n → Drawn method n m c

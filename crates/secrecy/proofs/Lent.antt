@@ -17,7 +17,7 @@ use Rattle.lookup.specs.Entry.{value-of}
 use Rattle.lookup.specs.Methods.{known}
 use Rattle.lookup.specs.Call.{log-of, log-length}
 use Rattle.lookup.specs.Refusals.{scratch-checks, log-checks, logged-refusal}
-use Rattle.lookup.proofs.Methods.{of-each, known-2-or-3}
+use Rattle.lookup.proofs.Methods.{of-each}
 use Rattle.lookup.proofs.Accepted.{Taken, accepted, not-refused}
 use Rattle.lookup.proofs.Refused.{log-not-refused, logged-case, plain-by-case, logged-by-plain, logged-by-rest}
 use Rattle.refusals.specs.Left.{left}
@@ -45,6 +45,7 @@ choice-taken table method n m x choice e k h inside =
         r1 = drawn .r1;
         r2 = drawn .r2;
         r3 = drawn .r3;
+        r3-taken = drawn .r3-taken;
         s1 = drawn .s1;
         s2 = drawn .s2;
         b = drawn .b;
@@ -64,7 +65,7 @@ case-chosen table c taken =
     let k = taken .1 in
     let x0 : c .x0 ⊕ c .r1 ⊕ c .r2 ⊕ c .r1 ⊕ c .r2 ≡ c .x0 = simp xors in (
       of-each (c .method) hiding (taken .0) .whole (c .n) (c .m) (masks-of c)
-          (record { r1 = k .r1; r2 = k .r2; r3 = k .r3; s1 = k .s1; s2 = k .s2; b = k .b }),
+          (record { r1 = k .r1; r2 = k .r2; r3 = k .r3; r3-taken = k .r3-taken; s1 = k .s1; s2 = k .s2; b = k .b }),
       rw x0,
     )
 
@@ -81,7 +82,7 @@ choices-accepted table scratch lent method n m x choice e k h inside room clean 
     let c = chosen-case single method n m x choice in
     logged-by-plain c table scratch lent (log-not-refused c lent long)
     ∙ plain-by-case c table scratch (record { room = room; clean = clean })
-    ∙ not-refused c table (choice-taken table method n m x choice e (known-2-or-3 k) h inside)
+    ∙ not-refused c table (choice-taken table method n m x choice e k h inside)
 
 pub call-tells-nothing : Call-tells-nothing
 unfolding Call-tells-nothing Lent-log-counted Tells-nothing call-count count shows value-at chosen-case scratch-checks log-checks logged-log
@@ -98,7 +99,7 @@ call-tells-nothing table scratch lent method n m x y i j u v e k hx hy hi hj = b
         → logged-refusal (chosen-case single method n m z c) table scratch lent ≡ rest
     number z hz c inside =
         let one = chosen-case single method n m z c in
-        logged-by-rest one table scratch lent (not-refused one table (choice-taken table method n m z c e (known-2-or-3 k) hz inside))
+        logged-by-rest one table scratch lent (not-refused one table (choice-taken table method n m z c e k hz inside))
 
     -- accepted: the log is the counted one
     at-position : rest ≡ 0 → (z : ℕ) → z < 2 ^ n → (c : ℕ → ℕ) → Within (mask-widths method n m) c → (p : ℕ) → p < log-length method n

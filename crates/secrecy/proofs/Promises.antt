@@ -10,7 +10,7 @@ use Rattle.probing.proofs.Sound.{alike}
 use Rattle.table.proofs.Fit.{fit-below}
 use Rattle.table.proofs.Even.{fit-even}
 use Rattle.lookup.specs.Methods.{found, method-of}
-use Rattle.lookup.proofs.Methods.{of-each, known-2-or-3}
+use Rattle.lookup.proofs.Methods.{of-each}
 use Rattle.secrecy.specs.Count.{single, mask-widths}
 use Rattle.secrecy.specs.Promises.{Tells-nothing, Even-tells-nothing, Choices-counted}
 use Rattle.secrecy.specs.Expressions.{system, alone, setting, secrets}
@@ -28,8 +28,8 @@ rows-show table method n m x h small c inside =
 
 pub even-tells-nothing : Even-tells-nothing
 unfolding Even-tells-nothing
-even-tells-nothing table method n m x y i j u v even small two-or-three hx hy =
-    let h = of-each method hiding (known-2-or-3 two-or-three) in
+even-tells-nothing table method n m x y i j u v even small is-known hx hy =
+    let h = of-each method hiding is-known in
     let rows = h .rows (alone single) in
     let masks = method-of method .mask-classes in
     counts-equal table n m method rows x y i j u v (rows-show table method n m x h hx) (rows-show table method n m y h hy)
@@ -46,4 +46,8 @@ unfolding Choices-counted mask-widths method-of found total
 choices-counted n m =
     let two : total (mask-widths 2 n m) ≡ 3 * n + 2 * m = omega arith in
     let three : total (mask-widths 3 n m) ≡ 1 + (3 * n + 2 * m) = omega arith in
-    (choices (mask-widths 2 n m) ∙ rw two, choices (mask-widths 3 n m) ∙ rw three (pow-add 2 1 (3 * n + 2 * m)))
+    let five : total (mask-widths 5 n m) ≡ 2 * n + 2 * m = omega arith in (
+      choices (mask-widths 2 n m) ∙ rw two,
+      choices (mask-widths 3 n m) ∙ rw three (pow-add 2 1 (3 * n + 2 * m)),
+      choices (mask-widths 5 n m) ∙ rw five,
+    )

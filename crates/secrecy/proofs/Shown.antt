@@ -1,4 +1,4 @@
--- The rows of both methods show the values of their expressions, wherever the call's masks and secrets stand.
+-- The rows of the methods show the values of their expressions, wherever the call's masks and secrets stand.
 use mathlib.Core.Path.{_≡_, refl, sym, ap, _∙_}
 use mathlib.Core.Bool.{cond}
 use mathlib.Core.List.{List, [], _∷_, map}
@@ -9,7 +9,7 @@ use native.Mathlib.Omega.{arith}
 use borrow.Author.Tests.{eq-eqb, ne-eqb}
 use lib.Dec.{eqb}
 use Rattle.bits.specs.Xor.{_⊕_}
-use Rattle.bits.proofs.Xor.{xors, zero-l, comm}
+use Rattle.bits.proofs.Xor.{xors, below, zero-l, comm}
 use Rattle.probing.specs.Expression.{Setting, value}
 use Rattle.table.specs.Balanced.{at}
 use Rattle.lookup.specs.declared.Case.{Case}
@@ -18,11 +18,13 @@ use Rattle.lookup.specs.Row.{Row, masked}
 use Rattle.lookup.specs.Method.{Method}
 use Rattle.lookup.specs.Method2.{r-prime, pass-2, method-2}
 use Rattle.lookup.specs.Method3.{place-3, compared, pass-3, method-3}
+use Rattle.lookup.specs.Method5.{copied, first-half, first-pass-5, second-pass-5, method-5}
 use Rattle.lookup.proofs.Second.{answer-2-is}
 use Rattle.lookup.proofs.Third.{answer-3-is, compared-hit, compared-miss, place-below}
+use Rattle.lookup.proofs.Fifth.{read-is, answer-5-is}
 use Rattle.lookup.proofs.Layouts.{Same-rows, no-pass, one-pass}
 use Rattle.secrecy.specs.Count.{chosen-case}
-use Rattle.secrecy.specs.Expressions.{Call-places, Shown, pass-shown-2, shown-2, pass-shown-3, shown-3}
+use Rattle.secrecy.specs.Expressions.{Call-places, Shown, pass-shown-2, shown-2, pass-shown-3, shown-3, first-shown-5, second-shown-5, shown-5}
 
 -- a bit's complement, as a sum
 complement : (b : ℕ) → b < 2 → 1 - b ≡ b ⊕ 1
@@ -113,4 +115,25 @@ module _ (s : Call-places) (number n m x : ℕ) (table : List ℕ) (setting : Se
           head = rw (k .input, k .bit, complement (masks (s .masks .b)) hb);
           passes = one-pass pass-same-3 no-pass;
           end = ap (λ v. masks (s .masks .b) ∷ v ∷ []) (answer-3-is case table hb (k .r1) (k .r2) (k .r3) ∙ answering method-3 k);
+        }
+
+  module _ (k : Stands s method-5 n x table setting secrets masks) where
+    first-same-5 : (a : ℕ) → a < 2 ^ n
+        → map (row-value case table a) first-pass-5 ≡ map (expression-value setting secrets masks a) (first-shown-5 s)
+    unfolding copied chosen-case value
+    first-same-5 a h = rw (turn-kept method-5 k h) (simp (k .entries))
+
+    second-same-5 : (a : ℕ) → a < 2 ^ n
+        → map (row-value case table a) second-pass-5 ≡ map (expression-value setting secrets masks a) (second-shown-5 s)
+    unfolding copied chosen-case value Q
+    second-same-5 a h = rw (read-is case table a h (k .r2), turn-kept method-5 k h) (simp (k .entries))
+
+    pub shows-5 : Same-rows (row-value case table) (expression-value setting secrets masks) (2 ^ n) (method-5 .layout) (shown-5 s)
+    unfolding copied chosen-case value Q
+    shows-5 =
+        let x0 : x ⊕ masks (s .masks .r1) ⊕ masks (s .masks .r2) < 2 ^ n = below n (below n (k .small) (k .r1)) (k .r2) in
+        record {
+          head = rw (k .input);
+          passes = one-pass first-same-5 (one-pass second-same-5 no-pass);
+          end = rw (k .input) (ap (λ v. (x ⊕ masks (s .masks .r1) ⊕ masks (s .masks .r2)) ∷ v ∷ []) (answer-5-is case table x0 (k .r2) ∙ answering method-5 k));
         }

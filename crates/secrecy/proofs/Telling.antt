@@ -1,5 +1,5 @@
--- What the masked entry of turn 0 and the answer show together: they differ by the difference of an entry and the one that is looked up. So
--- where they tell nothing, the table is fit.
+-- What a twice masked entry and the answer show together: they differ by the difference of an entry and the one that is looked up. So where
+-- they tell nothing, the table is fit.
 use mathlib.Core.Path.{_≡_, refl, sym, ap, _∙_}
 use mathlib.Core.Bool.{Bool, true, false, cond, _&&_}
 use mathlib.Core.List.{List, [], _∷_}
@@ -37,7 +37,8 @@ undone {a} {s} e =
     let back : a ≡ a ⊕ s ⊕ s = sym (simp xors) in
     back ∙ rw e (zero-l s)
 
-module _ (n m w x u : ℕ) (table : List ℕ) where
+-- the entry stands at base ⊕ r1 ⊕ r2; r3 has the width v, b the width w
+module _ (n m v w base x u : ℕ) (table : List ℕ) where
   -- the entry that is looked up, and whether another differs from it by u
   abbrev found : ℕ
   found = at table x
@@ -64,9 +65,9 @@ module _ (n m w x u : ℕ) (table : List ℕ) where
       one-mask-by-cases false e =
           rw (ne-eqb (found ⊕ s1 ⊕ s2) 0 (λ p. eqb-false (found ⊕ s1) s2 e (undone p))) (both-none _ ∙ sym (zero-mul _))
 
-  module _ (small : (z : ℕ) → at table z < 2 ^ m) (hx : x < 2 ^ n) (long : length table ≡ 2 ^ n) where
+  module _ (small : (z : ℕ) → at table z < 2 ^ m) (based : base < 2 ^ n) (long : length table ≡ 2 ^ n) where
     abbrev rest : ℕ
-    rest = 2 ^ n * (2 ^ m * 2 ^ w)
+    rest = 2 ^ v * (2 ^ m * 2 ^ w)
 
     -- over all b and s2, with what that leaves of the other value
     over-mask : (z s1 : ℕ) → s1 < 2 ^ m → sum (2 ^ m) (λ s2. sum (2 ^ w) (λ _. shown-both z s1 s2)) ≡ differs z * 2 ^ w
@@ -80,26 +81,26 @@ module _ (n m w x u : ℕ) (table : List ℕ) where
         ∙ rw apart
 
     -- over s1 and r3 besides
-    over-lookup : (z : ℕ) → sum (2 ^ n) (λ r3. sum (2 ^ m) (λ s1. sum (2 ^ m) (λ s2. sum (2 ^ w) (λ _. shown-both z s1 s2)))) ≡ differs z * rest
+    over-lookup : (z : ℕ) → sum (2 ^ v) (λ r3. sum (2 ^ m) (λ s1. sum (2 ^ m) (λ s2. sum (2 ^ w) (λ _. shown-both z s1 s2)))) ≡ differs z * rest
     over-lookup z =
-        sum-const (2 ^ n) _
-        ∙ ap (λ k. 2 ^ n * k) (sum-ext (2 ^ m) (λ s1 h. over-mask z s1 h) ∙ sum-const (2 ^ m) _ ∙ mul-left-comm (2 ^ m) (differs z) (2 ^ w))
-        ∙ mul-left-comm (2 ^ n) (differs z) (2 ^ m * 2 ^ w)
+        sum-const (2 ^ v) _
+        ∙ ap (λ k. 2 ^ v * k) (sum-ext (2 ^ m) (λ s1 h. over-mask z s1 h) ∙ sum-const (2 ^ m) _ ∙ mul-left-comm (2 ^ m) (differs z) (2 ^ w))
+        ∙ mul-left-comm (2 ^ v) (differs z) (2 ^ m * 2 ^ w)
 
     -- every place is looked at equally often
-    over-places : (r1 : ℕ) → r1 < 2 ^ n → sum (2 ^ n) (λ r2. differs (x ⊕ r1 ⊕ r2) * rest) ≡ count-of (u ⊕ found) table * rest
+    over-places : (r1 : ℕ) → r1 < 2 ^ n → sum (2 ^ n) (λ r2. differs (base ⊕ r1 ⊕ r2) * rest) ≡ count-of (u ⊕ found) table * rest
     unfolding differs
     over-places r1 h =
-        sum-ext (2 ^ n) (λ r2 _. ap (λ z. differs z * rest) (comm (x ⊕ r1) r2))
-        ∙ shift n (λ z. differs z * rest) (below n hx h)
+        sum-ext (2 ^ n) (λ r2 _. ap (λ z. differs z * rest) (comm (base ⊕ r1) r2))
+        ∙ shift n (λ z. differs z * rest) (below n based h)
         ∙ sum-times (2 ^ n) differs rest
         ∙ ap (λ k. k * rest) counted
       where
         counted : sum (2 ^ n) differs ≡ count-of (u ⊕ found) table
         counted = sum-ext (2 ^ n) (λ z _. ap (λ t. cond t 1 0) (eqb-shifted (at table z) found u)) ∙ rw (← long) (count-sum (u ⊕ found) table)
 
-    pub counted-both : over (n ∷ n ∷ n ∷ m ∷ m ∷ w ∷ []) (λ c. shown-both (x ⊕ c 0 ⊕ c 1) (c 3) (c 4))
+    pub counted-both : over (n ∷ n ∷ v ∷ m ∷ m ∷ w ∷ []) (λ c. shown-both (base ⊕ c 0 ⊕ c 1) (c 3) (c 4))
         ≡ 2 ^ n * (count-of (u ⊕ found) table * rest)
     unfolding over
     counted-both =
-        sum-ext (2 ^ n) (λ r1 h. sum-ext (2 ^ n) (λ r2 _. over-lookup (x ⊕ r1 ⊕ r2)) ∙ over-places r1 h) ∙ sum-const (2 ^ n) _
+        sum-ext (2 ^ n) (λ r1 h. sum-ext (2 ^ n) (λ r2 _. over-lookup (base ⊕ r1 ⊕ r2)) ∙ over-places r1 h) ∙ sum-const (2 ^ n) _

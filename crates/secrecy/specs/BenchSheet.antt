@@ -28,13 +28,17 @@ A = 2 ∷ 0 ∷ 3 ∷ 1 ∷ []
 abbrev P2 : Case
 P2 = case-from 2 2 2 0 1 2 3 0 2 0
 
+-- and that of P2 under method 5, which takes no r3 and no b
+abbrev P2-by-5 : Case
+P2-by-5 = case-from 5 2 2 0 1 2 3 0 0 0
+
 -- the logged call's number, by the lengths of the lent scratch and log; all begin with zeros
 abbrev refused : Case → (table : List ℕ) → (scratch log : ℕ) → ℕ
 refused c table scratch log = logged-refusal c table (replicate scratch 0) (replicate log 0)
 
--- P2's number where one byte of the scratch is not zero
-abbrev dirty-P2 : (scratch place log : ℕ) → ℕ
-dirty-P2 scratch place log = logged-refusal P2 A (set (replicate scratch 0) place 1) (replicate log 0)
+-- the number where one byte of the scratch is not zero, of P2 and of P2 under method 5
+abbrev dirty : Case → (scratch place log : ℕ) → ℕ
+dirty c scratch place log = logged-refusal c A (set (replicate scratch 0) place 1) (replicate log 0)
 
 -- every input with every choice of masks in their widths: the logged call's numbers, added up
 abbrev all-masks : (method n m : ℕ) → (table : List ℕ) → (scratch log : ℕ) → ℕ
@@ -56,13 +60,16 @@ sheet =
     -- P3: the same under method 3 with b = 1: scratch 0, 0, 1, 0, answer 2
     ∷ scratch-after (case-from 3 2 2 0 1 2 3 0 2 1) A (replicate 4 0) says (0 ∷ 0 ∷ 1 ∷ 0 ∷ [])
     ∷ (refused (case-from 3 2 2 0 1 2 3 0 2 1) A 4 46 ∷ answer (case-from 3 2 2 0 1 2 3 0 2 1) A ∷ []) says (0 ∷ 2 ∷ [])
+    -- P2 under method 5: scratch 3, 1, 2, 0 and behind it 2, 0, 3, 1, answer 2
+    ∷ scratch-after P2-by-5 A (replicate 8 0) says (3 ∷ 1 ∷ 2 ∷ 0 ∷ 2 ∷ 0 ∷ 3 ∷ 1 ∷ [])
+    ∷ (refused P2-by-5 A 8 39 ∷ answer P2-by-5 A ∷ []) says (0 ∷ 2 ∷ [])
     -- P4: x0 = 4: 10; x0 = 3 is accepted
     ∷ (refused (case-from 2 2 2 4 1 2 3 0 2 0) A 4 34 ∷ refused (case-from 2 2 2 3 1 2 3 0 2 0) A 4 34 ∷ []) says (10 ∷ 0 ∷ [])
     -- P5 with P2's other arguments: n = 2, m = 3 is accepted, since a table's m may be above its n; m = 9 is 4
     ∷ (refused (case-from 2 2 3 0 1 2 3 0 2 0) A 4 34 ∷ refused (case-from 2 2 9 0 1 2 3 0 2 0) A 4 34 ∷ []) says (0 ∷ 4 ∷ [])
     -- the linear layer keeps the old 4, m above n: n = 2 with three rows; with two accepted
     ∷ (layer 2 3 (1 ∷ 2 ∷ 3 ∷ []) 0 0 0 0 .refusal ∷ layer 2 2 (1 ∷ 2 ∷ []) 0 0 0 0 .refusal ∷ []) says (4 ∷ 0 ∷ [])
-    -- 0, 3, one bit in and two out, which is fit and not balanced (examples/valve.sheet): x = 1, answer 3 ⊕ 3 ⊕ 1 under both methods
+    -- 0, 3, one bit in and two out, which is fit and not balanced (examples/valve.sheet): x = 1, answer 3 ⊕ 3 ⊕ 1 under methods 2 and 3
     ∷ (refused (case-from 2 1 2 0 1 0 3 1 1 0) (0 ∷ 3 ∷ []) 2 22 ∷ answer (case-from 2 1 2 0 1 0 3 1 1 0) (0 ∷ 3 ∷ []) ∷ []) says (0 ∷ 1 ∷ [])
     ∷ (refused (case-from 3 1 2 0 1 0 3 1 1 1) (0 ∷ 3 ∷ []) 2 28 ∷ answer (case-from 3 1 2 0 1 0 3 1 1 1) (0 ∷ 3 ∷ []) ∷ []) says (0 ∷ 1 ∷ [])
     -- fit too: 1, 2, though 1 ⊕ 2 does not occur; and a constant table, 0, 0, with one bit out and with two
@@ -74,17 +81,23 @@ sheet =
     -- P6: n = 2, m = 1, table 0, 0, 0, 1: 7; table 0, 1, 1, 0, with every mask in its width, is accepted
     ∷ (refused (case-from 2 2 1 0 1 2 1 0 2 0) (0 ∷ 0 ∷ 0 ∷ 1 ∷ []) 4 34 ∷ refused (case-from 3 2 1 0 1 2 1 0 2 1)
     (0 ∷ 0 ∷ 0 ∷ 1 ∷ []) 4 46 ∷ []) says (7 ∷ 7 ∷ [])
-    ∷ (all-masks 2 2 1 (0 ∷ 1 ∷ 1 ∷ 0 ∷ []) 4 34 ∷ all-masks 3 2 1 (0 ∷ 1 ∷ 1 ∷ 0 ∷ []) 4 46 ∷ []) says (0 ∷ 0 ∷ [])
-    -- P7: scratch of 3 bytes: 13; with 4 accepted
-    ∷ (refused P2 A 3 34 ∷ refused P2 A 4 34 ∷ []) says (13 ∷ 0 ∷ [])
+    ∷ (all-masks 2 2 1 (0 ∷ 1 ∷ 1 ∷ 0 ∷ []) 4 34 ∷ all-masks 3 2 1 (0 ∷ 1 ∷ 1 ∷ 0 ∷ []) 4 46 ∷ all-masks 5 2 1 (0 ∷ 1 ∷ 1 ∷ 0 ∷ []) 8 39 ∷ [])
+    says (0 ∷ 0 ∷ 0 ∷ [])
+    -- P7: scratch of 3 bytes: 13; with 4 accepted. Under method 5 7 bytes are 13, and 8 accepted
+    ∷ (refused P2 A 3 34 ∷ refused P2 A 4 34 ∷ refused P2-by-5 A 7 39 ∷ refused P2-by-5 A 8 39 ∷ []) says (13 ∷ 0 ∷ 13 ∷ 0 ∷ [])
     -- P2 with a nonzero byte in the scratch: the first, the last of 2^n: 19; the one behind them: accepted
-    ∷ (dirty-P2 4 0 34 ∷ dirty-P2 4 3 34 ∷ dirty-P2 5 4 34 ∷ []) says (19 ∷ 19 ∷ 0 ∷ [])
+    ∷ (dirty P2 4 0 34 ∷ dirty P2 4 3 34 ∷ dirty P2 5 4 34 ∷ []) says (19 ∷ 19 ∷ 0 ∷ [])
+    -- under method 5 in either half, the first's first, the second's first and last: 19; the one behind them: accepted
+    ∷ (dirty P2-by-5 8 0 39 ∷ dirty P2-by-5 8 4 39 ∷ dirty P2-by-5 8 7 39 ∷ dirty P2-by-5 9 8 39 ∷ []) says (19 ∷ 19 ∷ 19 ∷ 0 ∷ [])
     -- 13 comes before 19, and 19 before 14
-    ∷ (dirty-P2 3 0 34 ∷ dirty-P2 4 0 33 ∷ []) says (13 ∷ 19 ∷ [])
-    -- P8: a log of 33: 14; with 34 accepted
-    ∷ (refused P2 A 4 33 ∷ refused P2 A 4 34 ∷ []) says (14 ∷ 0 ∷ [])
+    ∷ (dirty P2 3 0 34 ∷ dirty P2 4 0 33 ∷ dirty P2-by-5 7 4 39 ∷ dirty P2-by-5 8 4 38 ∷ []) says (13 ∷ 19 ∷ 13 ∷ 19 ∷ [])
+    -- P8: a log of 33: 14; with 34 accepted. Under method 5 38 entries are 14, and 39 accepted
+    ∷ (refused P2 A 4 33 ∷ refused P2 A 4 34 ∷ refused P2-by-5 A 8 38 ∷ refused P2-by-5 A 8 39 ∷ []) says (14 ∷ 0 ∷ 14 ∷ 0 ∷ [])
     -- P9: method 2 with b = 1: 12; method 3 with b = 2: 12
     ∷ (refused (case-from 2 2 2 0 1 2 3 0 2 1) A 4 34 ∷ refused (case-from 3 2 2 0 1 2 3 0 2 2) A 4 46 ∷ []) says (12 ∷ 12 ∷ [])
+    -- method 5 with r3 = 1: 12, with b = 1: 12; r3 = 3 is the largest that is 12, r3 = 4 is 10
+    ∷ (refused (case-from 5 2 2 0 1 2 3 0 1 0) A 8 39 ∷ refused (case-from 5 2 2 0 1 2 3 0 0 1) A 8 39
+    ∷ refused (case-from 5 2 2 0 1 2 3 0 3 0) A 8 39 ∷ refused (case-from 5 2 2 0 1 2 3 0 4 0) A 8 39 ∷ []) says (12 ∷ 12 ∷ 12 ∷ 10 ∷ [])
     -- P10: method 4 and n = 9 together: 2
     ∷ (refused (case-from 4 9 2 0 1 2 3 0 2 0) A 4 34 ∷ []) says (2 ∷ [])
     -- P11: n = m = 3, rows 3, 6, 5, constant 1, shares 7, 1, 3: result 1, 5, 6, which join to 2
@@ -94,9 +107,16 @@ sheet =
     ∷ pairs (1 ∷ 0 ∷ []) 2 1 1 0 0 21 says (8 ∷ 8 ∷ 8 ∷ 8 ∷ [])
     ∷ pairs (1 ∷ 0 ∷ []) 2 1 1 1 0 21 says (8 ∷ 8 ∷ 8 ∷ 8 ∷ [])
     ∷ (over (mask-widths 2 1 1) (λ c. 1) ∷ []) says (32 ∷ [])
+    -- the same under method 5, positions 0 and 22: 4 of 16 choices
+    ∷ pairs (1 ∷ 0 ∷ []) 5 1 1 0 0 22 says (4 ∷ 4 ∷ 4 ∷ 4 ∷ [])
+    ∷ pairs (1 ∷ 0 ∷ []) 5 1 1 1 0 22 says (4 ∷ 4 ∷ 4 ∷ 4 ∷ [])
+    ∷ (over (mask-widths 5 1 1) (λ c. 1) ∷ []) says (16 ∷ [])
     -- P6's refused table leaks: kind 14 at a = 0 and the answer are both 0 for 96 of 256 choices where x = 0, and for 32 where x = 3
     ∷ (count (0 ∷ 0 ∷ 0 ∷ 1 ∷ []) 2 2 1 0 13 33 0 0 ∷ count (0 ∷ 0 ∷ 0 ∷ 1 ∷ []) 2 2 1 3 13 33 0 0 ∷ []) says (96 ∷ 32 ∷ [])
     ∷ (over (mask-widths 2 2 1) (λ c. 1) ∷ []) says (256 ∷ [])
+    -- under method 5 by kind 12 at a = 0 and the answer: 24 of 64 choices where x = 0, and 8 where x = 3
+    ∷ (count (0 ∷ 0 ∷ 0 ∷ 1 ∷ []) 5 2 1 0 24 38 0 0 ∷ count (0 ∷ 0 ∷ 0 ∷ 1 ∷ []) 5 2 1 3 24 38 0 0 ∷ []) says (24 ∷ 8 ∷ [])
+    ∷ (over (mask-widths 5 2 1) (λ c. 1) ∷ []) says (64 ∷ [])
     -- the table 0, 3 does not: the same pair of positions, 13 and 21 here, is 3 and 0 for 16 of 128 choices, for both inputs
     ∷ (count (0 ∷ 3 ∷ []) 2 1 2 0 13 21 3 0 ∷ count (0 ∷ 3 ∷ []) 2 1 2 1 13 21 3 0 ∷ []) says (16 ∷ 16 ∷ [])
     ∷ (over (mask-widths 2 1 2) (λ c. 1) ∷ []) says (128 ∷ [])

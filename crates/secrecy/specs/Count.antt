@@ -43,7 +43,7 @@ chosen-case p method n m x c =
       b = c (p .b);
     }
 
--- the masks' widths: b is one bit under method 3, and 0 under method 2
+-- the masks' widths: b is one bit under method 3, and 0 under methods 2 and 5; r3 is 0 under method 5
 unfoldable pub mask-widths : (method n m : ℕ) → List ℕ
 mask-widths method n m = map (class-width n m) (method-of method .mask-classes)
 

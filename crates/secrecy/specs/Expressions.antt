@@ -1,4 +1,4 @@
--- The rows of both methods' logs as expressions over secrets and masks: what the leak test reads. A call's rows take the places of its
+-- The rows of the methods' logs as expressions over secrets and masks: what the leak test reads. A call's rows take the places of its
 -- masks and of its secrets, so that the same rows serve any call among several.
 use mathlib.Core.List.{List, [], _∷_}
 use Prim.Native.Nat.{ℕ}
@@ -79,6 +79,22 @@ module _ (s : Call-places) where
 
   abbrev pub shown-3 : Layout Shown
   shown-3 = record { head = x0 ∷ r1 ∷ r2 ∷ s1 ∷ s2 ∷ b ∷ r3 ∷ other ∷ []; passes = pass-shown-3 ∷ []; end = b ∷ answer ∷ [] }
+
+  -- the table's entry that the first pass copies, and the byte that the second reads
+  abbrev copied-first : Shown
+  copied-first a = lookup (s .table) ((turn ⊕ r1) a)
+
+  abbrev copied-second : Shown
+  copied-second a = lookup (s .table) ((turn ⊕ r2 ⊕ r1) a) ⊞ mask (s .masks .s1)
+
+  abbrev pub first-shown-5 : List Shown
+  first-shown-5 = turn ∷ turn ⊕ r1 ∷ copied-first ∷ copied-first ⊕ s1 ∷ []
+
+  abbrev pub second-shown-5 : List Shown
+  second-shown-5 = turn ∷ turn ⊕ r2 ∷ copied-second ∷ copied-second ⊕ s2 ∷ []
+
+  abbrev pub shown-5 : Layout Shown
+  shown-5 = record { head = x0 ∷ r1 ∷ r2 ∷ s1 ∷ s2 ∷ []; passes = first-shown-5 ∷ second-shown-5 ∷ []; end = x0 ∷ answer ∷ [] }
 
 -- what lies past the end of a log shows 0
 abbrev pub nothing : Expression

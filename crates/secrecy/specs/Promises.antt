@@ -1,7 +1,6 @@
 -- The third demand (docs/ARCHITECTURE.md says which that is), of the log as it is defined and of the logged call itself. Each statement is
 -- a type; the proofs stand in proofs/Promises.antt, Lent.antt, Unfit.antt and NarrowCount.antt.
 use mathlib.Core.Path.{_≡_}
-use mathlib.Core.Logic.{_⊎_}
 use mathlib.Core.Bool.{true, false}
 use mathlib.Core.List.{List}
 use Prim.Native.Nat.{ℕ, _+_, _*_, _^_, _≤_, _<_}
@@ -13,6 +12,7 @@ use Rattle.table.specs.Fit.{fit}
 use Rattle.table.specs.Even.{Even}
 use Rattle.table.specs.Refusals.{table-refusal}
 use Rattle.lookup.specs.declared.Case.{Case}
+use Rattle.lookup.specs.Methods.{known}
 use Rattle.lookup.specs.Call.{log-of, log-length, scratch-length}
 use Rattle.lookup.specs.Refusals.{dirty, logged-refusal}
 use Rattle.calls.specs.Reply.{logged-log}
@@ -28,37 +28,39 @@ Alike-at table method n m i j =
 -- two values and any two inputs: as many choices of all masks put those values there for the one input as for the other
 unfoldable pub Tells-nothing : Type 0
 Tells-nothing =
-    (table : List ℕ) (method n m x y i j u v : ℕ) → fit n m table ≡ true → (method ≡ 2) ⊎ (method ≡ 3) → x < 2 ^ n → y < 2 ^ n →
+    (table : List ℕ) (method n m x y i j u v : ℕ) → fit n m table ≡ true → known method ≡ true → x < 2 ^ n → y < 2 ^ n →
     count table method n m x i j u v ≡ count table method n m y i j u v
 
--- and no other table does: one that is refused with 7 tells something under both methods, by the masked entry of turn 0 and the answer: they
--- do not count equally for all inputs. So no table that is safe is refused with 7
+-- and no other table does: one that is refused with 7 tells something under each method, by the twice masked entry of turn 0 and the answer:
+-- they do not count equally for all inputs. So no table that is safe is refused with 7
 unfoldable pub Unfit-tells : Type 0
 Unfit-tells =
     (table : List ℕ) (n m : ℕ) → table-refusal n m table ≡ 7 →
     (Alike-at table 2 n m 13 (9 + 6 * 2 ^ n) → ⊥) × (Alike-at table 3 n m 16 (9 + 9 * 2 ^ n) → ⊥)
+    × (Alike-at table 5 n m (8 + 4 * 2 ^ n) (6 + 8 * 2 ^ n) → ⊥)
 
 -- the same for every even table with entries of the output's width
 unfoldable pub Even-tells-nothing : Type 0
 Even-tells-nothing =
-    (table : List ℕ) (method n m x y i j u v : ℕ) → Even n (at table) → ((z : ℕ) → at table z < 2 ^ m) → (method ≡ 2) ⊎ (method ≡ 3) →
+    (table : List ℕ) (method n m x y i j u v : ℕ) → Even n (at table) → ((z : ℕ) → at table z < 2 ^ m) → known method ≡ true →
     x < 2 ^ n → y < 2 ^ n → count table method n m x i j u v ≡ count table method n m y i j u v
 
 -- of a table that is accepted, these are the counts of the narrow entries that logs had before: the demand is the one that it was
 unfoldable pub Counts-as-narrow : Type 0
 Counts-as-narrow =
-    (table : List ℕ) (method n m x i j u v : ℕ) → table-refusal n m table ≡ 0 → (method ≡ 2) ⊎ (method ≡ 3) → x < 2 ^ n →
+    (table : List ℕ) (method n m x i j u v : ℕ) → table-refusal n m table ≡ 0 → known method ≡ true → x < 2 ^ n →
     count table method n m x i j u v ≡ narrow-count table method n m x i j u v
 
--- how many choices there are: 2^(3n + 2m) under method 2, and twice as many under method 3
+-- how many choices there are: 2^(3n + 2m) under method 2, twice as many under method 3, and 2^(2n + 2m) under method 5
 unfoldable pub Choices-counted : Type 0
 Choices-counted =
     (n m : ℕ) → (over (mask-widths 2 n m) (λ c. 1) ≡ 2 ^ (3 * n + 2 * m)) × (over (mask-widths 3 n m) (λ c. 1) ≡ 2 * 2 ^ (3 * n + 2 * m))
+    × (over (mask-widths 5 n m) (λ c. 1) ≡ 2 ^ (2 * n + 2 * m))
 
 -- every one of them is accepted by the logged call, where the table is, where scratch and log are long enough, and the scratch is clean
 unfoldable pub Choices-accepted : Type 0
 Choices-accepted =
-    (table scratch lent : List ℕ) (method n m x : ℕ) (choice : ℕ → ℕ) → table-refusal n m table ≡ 0 → (method ≡ 2) ⊎ (method ≡ 3)
+    (table scratch lent : List ℕ) (method n m x : ℕ) (choice : ℕ → ℕ) → table-refusal n m table ≡ 0 → known method ≡ true
     → x < 2 ^ n →
     Within (mask-widths method n m) choice → scratch-length method n ≤ length scratch → dirty (scratch-length method n) scratch ≡ false →
     log-length method n ≤ length lent →
@@ -84,6 +86,6 @@ Lent-log-counted =
 -- log shows two values at two positions equally often for any two inputs
 unfoldable pub Call-tells-nothing : Type 0
 Call-tells-nothing =
-    (table scratch lent : List ℕ) (method n m x y i j u v : ℕ) → table-refusal n m table ≡ 0 → (method ≡ 2) ⊎ (method ≡ 3) → x < 2 ^ n
+    (table scratch lent : List ℕ) (method n m x y i j u v : ℕ) → table-refusal n m table ≡ 0 → known method ≡ true → x < 2 ^ n
     → y < 2 ^ n → i < log-length method n → j < log-length method n →
     call-count table scratch lent method n m x i j u v ≡ call-count table scratch lent method n m y i j u v

@@ -33,12 +33,12 @@ module _ (c : Case) (table : List ℕ) where
     log-small : log-length (c .method) (c .n) ≤ 2314
     log-small = log-most (c .method) (c .n) (accepted c table e .0) (accepted c table e .1 .table .input-most)
 
-    scratch-small : scratch-length (c .method) (c .n) ≤ 256
+    scratch-small : scratch-length (c .method) (c .n) ≤ 512
     scratch-small = scratch-most (c .method) (c .n) (accepted c table e .0) (accepted c table e .1 .table .input-most)
 
   -- zeros are lent, and scratch and log are long enough, so only the case is refused
   module _ (scratch lent : List ℕ) (x : Called) (told : x ≡ logged-reply c table scratch lent)
-      (zeros : scratch ≡ replicate 256 0) (log-room : length lent ≡ 2400) where
+      (zeros : scratch ≡ replicate 512 0) (log-room : length lent ≡ 2400) where
     same-refusal : logged-refusal c table scratch lent ≡ case-refusal c table
     unfolding Cleared-taken
     same-refusal = same-refusal-by-cases (case-refusal c table) refl
@@ -46,7 +46,7 @@ module _ (c : Case) (table : List ℕ) where
         same-refusal-by-cases : (k : ℕ) → k ≡ case-refusal c table → logged-refusal c table scratch lent ≡ case-refusal c table
         same-refusal-by-cases zero e =
             logged-by-plain c table scratch lent (log-not-refused c lent (omega (arith, log-small (sym e))))
-            ∙ ap (plain-refusal c table) zeros ∙ cleared-taken table 256 c (scratch-small (sym e))
+            ∙ ap (plain-refusal c table) zeros ∙ cleared-taken table 512 c (scratch-small (sym e))
         same-refusal-by-cases (suc k) e =
             sym (refused-by-case c table scratch lent (suc k) e (λ z. omega arith)) ∙ e
 

@@ -25,7 +25,7 @@ fn reply(malformed: bool, case: Case, table: &[u8], output: &mut [u8; 32768]) ->
     ensures { λ _. ⌜ now (output .exit) ≡ in-front (cond malformed (line-of 4 (1 ∷ [])) (Print·reply case (now (table .entry))))
         (now (output .entry)) ⌝ }
 {
-    let mut scratch = [0u8; 256];
+    let mut scratch = [0u8; 512];
     let mut log = [0u32; 2400];
     let called = calls::logged(case, table, &mut scratch, &mut log);
     let refusal = first_refusal(malformed, called.refusal);

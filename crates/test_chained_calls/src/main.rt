@@ -95,8 +95,8 @@ fn prepare_and_print(
 
 // Lends filled buffers of the records' lengths, so that what is cleared, what a call writes and what it leaves can all be seen.
 fn answer(first: &[u8], second: &[u8]) {
-    let mut first_scratch = [90u8; 300];
-    let mut second_scratch = [90u8; 300];
+    let mut first_scratch = [90u8; 600];
+    let mut second_scratch = [90u8; 600];
     let mut first_log = [2779096485u32; 2400];
     let mut second_log = [2779096485u32; 2400];
     let first_bytes = test_lookup_records::scratch_length(first);

@@ -29,10 +29,10 @@ fn print_call(record: &[u8], scratch: &mut [u8], log: &mut [u32], sheet: &mut [u
 
 // Lends filled buffers of the record's lengths, so that what a call clears, what it overwrites and what it leaves can all be seen.
 fn answer(record: &[u8]) {
-    let mut scratch = [165u8; 300];
+    let mut scratch = [165u8; 600];
     let mut log = [2779096485u32; 2400];
     let mut sheet = [4042322160u32; 100];
-    let bytes = test_records::least(test_records::length(record, 26), 300);
+    let bytes = test_records::least(test_records::length(record, 26), 600);
     let entries = test_records::least(test_records::length(record, 28), 2400);
     let counts = test_records::least(test_records::length(record, 30), 100);
     print_call(

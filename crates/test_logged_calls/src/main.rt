@@ -22,7 +22,7 @@ fn print_call(record: &[u8], scratch: &mut [u8], log: &mut [u32]) {
 
 // Lends filled buffers of the record's lengths, so that what is cleared, what a call writes and what it leaves can all be seen.
 fn answer(record: &[u8]) {
-    let mut scratch = [90u8; 300];
+    let mut scratch = [90u8; 600];
     let mut log = [2779096485u32; 2400];
     let bytes = test_lookup_records::scratch_length(record);
     let entries = test_lookup_records::log_length(record);

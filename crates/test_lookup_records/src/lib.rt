@@ -24,11 +24,11 @@ pub fn table(record: &[u8]) -> &[u8] {
     test_records::part(record, 50, test_records::length(record, 40))
 }
 
-// How many bytes of scratch are lent, of 300.
+// How many bytes of scratch are lent, of 600.
 pub fn scratch_length(record: &[u8]) -> usize
-    ensures { λ r. ⌜ r ≤ 300 ⌝ }
+    ensures { λ r. ⌜ r ≤ 600 ⌝ }
 {
-    test_records::least(test_records::length(record, 42), 300)
+    test_records::least(test_records::length(record, 42), 600)
 }
 
 // How many entries of a log are lent, of 2400.

@@ -3,7 +3,8 @@ use borrow.Author.Needs.{needs}
 use Prim.Native.Nat.{_-_}
 use native.Mathlib.Omega.{arith}
 use lib.ListN.{length}
-use Rattle.log_entries.proofs.Putting.{Putting, putting-begins, putting-turns, putting-ends}
+use Rattle.buffers.proofs.Pasting.{pasting-begins}
+use Rattle.log_entries.proofs.Putting.{Putting, putting-turns, putting-ends}
 use Rattle.log_entries.proofs.put.Statement.{statement}
 use Rattle.log_entries.proofs.put.Tie as tie
 
@@ -20,6 +21,6 @@ mul-log c = omega (arith, c .before .before .before .before .before .before .bef
 pub put-spec : {M : Type 1} → statement M
 put-spec =
     tie.close
-    (tie.spec Inv μ (λ c. search putting-begins) (λ c. search needs) (λ c. search needs) (λ c. search needs) (λ c κs. search needs)
+    (tie.spec Inv μ (λ c. search pasting-begins) (λ c. search needs) (λ c. search needs) (λ c. search needs) (λ c κs. search needs)
     (λ c. search needs) mul-log (λ c. search needs)
     (λ c. search needs) (λ c. search needs) (λ c. search putting-turns) (λ c. search needs) (λ c. search putting-ends))

@@ -3,8 +3,9 @@ use borrow.Author.Needs.{needs}
 use Rattle.lookup.specs.Method.{no-method}
 use Rattle.lookup.specs.Method2.{method-2}
 use Rattle.lookup.specs.Method3.{method-3}
-use Rattle.lookup.proofs.Methods.{method-2-of, method-3-of, no-method-of}
-use Rattle.methods.proofs.Found.{turns-fit, scratch-length-by}
+use Rattle.lookup.specs.Method5.{method-5}
+use Rattle.lookup.proofs.Methods.{method-2-of, method-3-of, method-5-of, no-method-of}
+use Rattle.methods.proofs.Found.{turns-fit, twice-fit, power-twice, scratch-length-by}
 use Rattle.methods.proofs.scratch_length.Statement.{statement}
 use Rattle.methods.proofs.scratch_length.Tie as tie
 
@@ -12,4 +13,5 @@ pub scratch-length-spec : {M : Type 1} → statement M
 scratch-length-spec =
     tie.close
     (tie.spec (λ c κs. search needs) (λ c. search turns-fit) (λ c. search (scratch-length-by method-2, method-2-of))
-    (λ c. search (scratch-length-by method-3, method-3-of)) (λ c. search (scratch-length-by no-method, no-method-of)))
+    (λ c. search (scratch-length-by method-3, method-3-of)) (λ c. search twice-fit) (λ c. search (scratch-length-by method-5, method-5-of, power-twice))
+    (λ c. search (scratch-length-by no-method, no-method-of)))
