@@ -45,8 +45,8 @@ class Program(NamedTuple):
 
 # counting takes the model long, and the same sheets come again
 PROGRAMS = {
-    "bench": Program(model.bench, sheets, 329, "p1.sheet", 20000, "case sheet", (12, 11), 2313, 1321),
-    "counts": Program(functools.cache(counts.counts), count_sheets, 341, "p12.counts", 2000, "probe sheet", (16, 15), 8, 1305),
+    "bench": Program(model.bench, sheets, 367, "p1.sheet", 20000, "case sheet", (12, 11), 2313, 1321),
+    "counts": Program(functools.cache(counts.counts), count_sheets, 376, "p12.counts", 2000, "probe sheet", (16, 15), 8, 1305),
 }
 EXAMPLES = Path(__file__).resolve().parents[2] / "examples"
 LONGEST_RUN = 20  # seconds

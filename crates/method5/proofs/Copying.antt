@@ -69,8 +69,8 @@ module _ (c : Case) (table before : List ℕ) where
   abbrev pub First : (now : List ℕ) → (a : ℕ) → Type 0
   First now a = Copying c (c .r1) (c .s1) table before 0 now a
 
-  pub first-index : (size a : ℕ) → Bounded c → length table ≡ 2 ^ c .n → size ≡ 2 ^ c .n → a < size → a ⊕ c .r1 < length table
-  first-index size a k long e h = rw long (below (c .n) (rw e at h) (k .r1))
+  pub first-index : (size a r : ℕ) → length table ≡ 2 ^ c .n → size ≡ 2 ^ c .n → a < size → r < 2 ^ c .n → a ⊕ r < length table
+  first-index size a r long e h l = rw long (below (c .n) (rw e at h) l)
 
   module _ (now : List ℕ) (size a : ℕ) (e : size ≡ 2 ^ c .n) where
     pub first-place : a < size → 2 * 2 ^ c .n ≤ length before → First now a → a < length now
@@ -92,14 +92,14 @@ module _ (c : Case) (before : List ℕ) where
   Second now a = Copying c (c .r2) (c .s2) before before (2 ^ c .n) now a
 
   module _ (now : List ℕ) (size a : ℕ) (e : size ≡ 2 ^ c .n) where
-    index : a < size → c .r2 < 2 ^ c .n → a ⊕ c .r2 < 2 ^ c .n
-    index h r2 = below (c .n) (rw e at h) r2
+    index : (r : ℕ) → a < size → r < 2 ^ c .n → a ⊕ r < 2 ^ c .n
+    index r h l = below (c .n) (rw e at h) l
 
     pub second-half-long : 2 * 2 ^ c .n ≤ length before → Second now a → 2 * 2 ^ c .n ≤ length now
     second-half-long room k = rw (k .long) room
 
-    pub second-index : Bounded c → a < size → 2 * 2 ^ c .n ≤ length before → Second now a → a ⊕ c .r2 < length now
-    second-index b h room k = omega (arith, index h (b .r2), k .long)
+    pub second-index : (r : ℕ) → a < size → r < 2 ^ c .n → 2 * 2 ^ c .n ≤ length before → Second now a → a ⊕ r < length now
+    second-index r h l room k = omega (arith, index r h l, k .long)
 
     pub second-place : a < size → 2 * 2 ^ c .n ≤ length before → Second now a → size + a < length now
     second-place h room k = rw e (copying-place c (c .r2) (c .s2) before before (2 ^ c .n) now a (rw e at h) (omega arith) k)
@@ -108,7 +108,7 @@ module _ (c : Case) (before : List ℕ) where
     pub still-read : Bounded c → a < size → 2 * 2 ^ c .n ≤ length before → Second now a → at now (a ⊕ c .r2) ≡ at before (a ⊕ c .r2)
     unfolding at
     still-read b h room k =
-        pasting-keeps before (2 ^ c .n) _ now a (a ⊕ c .r2) (omega arith) (index h (b .r2)) (k .pasting)
+        pasting-keeps before (2 ^ c .n) _ now a (a ⊕ c .r2) (omega arith) (index (c .r2) h (b .r2)) (k .pasting)
 
     pub second-turns : (value : ℕ) → Bounded c → a < size → 2 * 2 ^ c .n ≤ length before → value ≡ copied (c .r2) (c .s2) now a
         → Second now a → Second (set now (size + a) value) (a + 1)

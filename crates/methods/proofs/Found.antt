@@ -3,10 +3,12 @@ use mathlib.Core.Path.{_≡_, refl, sym, ap, subst, _∙_}
 use mathlib.Core.Bool.{true, false}
 use mathlib.Core.List.{List, map}
 use Prim.Native.Nat.{ℕ, _*_, _-_, _^_, _≤_}
+use native.Mathlib.Nat.{mul-le-mul}
 use native.Mathlib.Omega.{arith}
 use mir.Syntax.{w16}
 use mir.Val.{Fits}
 use borrow.Author.Tests.{eqb-true}
+use lib.Dec.{T, leb, lit≤}
 use lib.ListN.{length}
 use lib.Pow.{pow-pos, pow-mono}
 use Rattle.buffers.specs.Written.{in-front}
@@ -33,18 +35,20 @@ turns-fit turns n e h =
     let most : 2 ^ n ≤ 256 = pow-mono h in
     record { fits = omega arith }
 
-pub twice-fit : (turns n : ℕ) → turns ≡ 2 ^ n → n ≤ 8 → Fits w16 (2 * turns)
-twice-fit turns n e h =
+pub times-fit : (times turns n : ℕ) → T (leb times 2) → turns ≡ 2 ^ n → n ≤ 8 → Fits w16 (times * turns)
+times-fit times turns n k e h =
     let most : 2 ^ n ≤ 256 = pow-mono h in
-    record { fits = omega arith }
+    let few : turns ≤ 256 = rw e most in
+    let twice : times ≤ 2 = lit≤ k in
+    record { fits = omega (arith, mul-le-mul twice few) }
 
--- what `power` told is never 0; twice as much, and one less
+-- what `power` told is never 0; so many times as much, and one less
 module _ (inputs n : ℕ) (e : inputs ≡ 2 ^ n) where
   pub power-some : 1 ≤ inputs
   power-some = rw e (pow-pos n)
 
-  pub power-twice : 2 * inputs ≡ 2 * 2 ^ n
-  power-twice = rw e
+  pub power-times : (times : ℕ) → times * inputs ≡ times * 2 ^ n
+  power-times times = rw e
 
   pub power-less : inputs - 1 ≡ 2 ^ n - 1
   power-less = rw e

@@ -181,22 +181,21 @@ module _ (number n m x : ℕ) (c : ℕ → ℕ) (table : List ℕ) where
       let place : 0 ⊕ c 1 ⊕ c 0 ≡ 0 ⊕ c 0 ⊕ c 1 = simp xors in
       copied-is chosen table 0 (pow-pos n) h ∙ rw place
 
+-- the positions in numbers
+moved : (table : List ℕ) (number n m : ℕ) {p p′ q q′ : ℕ} → p ≡ p′ → q ≡ q′ → Alike-at table number n m p q → Alike-at table number n m p′ q′
+moved table number n m e f same = rw (← e, ← f) same
+
 pub unfit-tells : Unfit-tells
 unfolding Unfit-tells mask-widths method-of found known among at chosen-case
-unfit-tells table n m refused =
-    let row-2 : 13 ≡ 8 + 0 * 2 ^ n + 5 = omega arith in
-    let row-3 : 16 ≡ 8 + 0 * 2 ^ n + 8 = omega arith in
-    let row-5 : 8 + 4 * 2 ^ n ≡ 5 + 4 * 2 ^ n + 3 = omega arith in
-    let last-2 : 9 + 6 * 2 ^ n ≡ 8 + 6 * 2 ^ n + 1 = omega arith in
-    let last-3 : 9 + 9 * 2 ^ n ≡ 8 + 9 * 2 ^ n + 1 = omega arith in
-    let last-5 : 6 + 8 * 2 ^ n ≡ 5 + 8 * 2 ^ n + 1 = omega arith in (
-      rw (row-2, last-2)
-          (unfit-told 2 5 0 2 (λ x. x) head-2 [] pass-2 [] end-2 refl (lit< tt) (λ n x h. h) (λ n m x c t h. masked-first 2 n m x c t)
-          (λ c table. refl) (λ n m. refl) refl table n m refused),
-      rw (row-3, last-3)
-          (unfit-told 3 8 0 3 (λ x. x) head-3 [] pass-3 [] end-3 refl (lit< tt) (λ n x h. h)
-          (λ n m x c t h. masked-first 3 n m x c t) (λ c table. refl) (λ n m. refl) refl table n m refused),
-      rw (row-5, last-5)
-          (unfit-told 5 3 2 2 (λ x. 0) head-5 (first-pass-5 ∷ []) second-pass-5 [] end-5 refl (lit< tt) (λ n x h. pow-pos n)
-          (λ n m x c t h. copied-first 5 n m x c t h) (λ c table. refl) (λ n m. refl) refl table n m refused),
-    )
+unfit-tells table n m refused = (
+  λ same.
+      unfit-told 2 5 0 2 (λ x. x) head-2 [] pass-2 [] end-2 refl (lit< tt) (λ n x h. h) (λ n m x c t h. masked-first 2 n m x c t)
+      (λ c table. refl) (λ n m. refl) refl table n m refused (moved table 2 n m (omega arith) (omega arith) same),
+  λ same.
+      unfit-told 3 8 0 3 (λ x. x) head-3 [] pass-3 [] end-3 refl (lit< tt) (λ n x h. h) (λ n m x c t h. masked-first 3 n m x c t)
+      (λ c table. refl) (λ n m. refl) refl table n m refused (moved table 3 n m (omega arith) (omega arith) same),
+  λ same.
+      unfit-told 5 3 2 2 (λ x. 0) head-5 (first-pass-5 ∷ []) second-pass-5 [] end-5 refl (lit< tt) (λ n x h. pow-pos n)
+      (λ n m x c t h. copied-first 5 n m x c t h) (λ c table. refl) (λ n m. refl) refl table n m refused
+      (moved table 5 n m (omega arith) (omega arith) same),
+)

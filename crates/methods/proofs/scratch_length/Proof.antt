@@ -5,7 +5,7 @@ use Rattle.lookup.specs.Method2.{method-2}
 use Rattle.lookup.specs.Method3.{method-3}
 use Rattle.lookup.specs.Method5.{method-5}
 use Rattle.lookup.proofs.Methods.{method-2-of, method-3-of, method-5-of, no-method-of}
-use Rattle.methods.proofs.Found.{turns-fit, twice-fit, power-twice, scratch-length-by}
+use Rattle.methods.proofs.Found.{turns-fit, times-fit, power-times, scratch-length-by}
 use Rattle.methods.proofs.scratch_length.Statement.{statement}
 use Rattle.methods.proofs.scratch_length.Tie as tie
 
@@ -13,5 +13,5 @@ pub scratch-length-spec : {M : Type 1} → statement M
 scratch-length-spec =
     tie.close
     (tie.spec (λ c κs. search needs) (λ c. search turns-fit) (λ c. search (scratch-length-by method-2, method-2-of))
-    (λ c. search (scratch-length-by method-3, method-3-of)) (λ c. search twice-fit) (λ c. search (scratch-length-by method-5, method-5-of, power-twice))
+    (λ c. search (scratch-length-by method-3, method-3-of)) (λ c. search times-fit) (λ c. search (scratch-length-by method-5, method-5-of, power-times))
     (λ c. search (scratch-length-by no-method, no-method-of)))
