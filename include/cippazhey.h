@@ -35,7 +35,7 @@ enum cippazhey_refusal {
     CIPPAZHEY_REFUSED_RANDOM_LENGTH = 26,  // a frame is not lent exactly 632 random bytes
     CIPPAZHEY_REFUSED_FAULTY_RANDOM = 27,  // a value stands more than 20 times in 512 consecutive ones of these bytes
     CIPPAZHEY_REFUSED_SCRATCH_LENGTH = 13, // scratch has fewer than 2^n bytes, under method 5 than 2^(n+1); for a frame than 256
-    CIPPAZHEY_REFUSED_DIRTY_SCRATCH = 19   // one of so many first bytes of scratch is not zero; a frame clears them itself
+    CIPPAZHEY_REFUSED_DIRTY_SCRATCH = 19   // one of the bytes that 13 asks for is not zero; a frame clears them itself
 };
 
 // A lookup needs 2^n bytes of scratch, under method 5 2^(n+1). The first number suffices for every method and width, and for a

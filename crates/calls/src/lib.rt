@@ -1,4 +1,4 @@
-// The logged and the plain call: masked table lookup on three shares, under method 2 or 3.
+// The logged and the plain call: masked table lookup on three shares, under one of the methods 2, 3 and 5.
 ghost use mathlib.Core.Path.{_≡_};
 ghost use Rattle.lookup.specs.Refusals.{logged-refusal};
 ghost use Rattle.calls.specs.Reply.{case-from, plain-reply, plain-scratch, logged-reply, logged-scratch, logged-log};

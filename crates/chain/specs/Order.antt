@@ -1,6 +1,6 @@
 -- The order of a chain's refusals in cases that compute: a chain of the tables 2, 0, 3, 1 and 0, 1, 1, 0 that is accepted, one of 0, 3 and
--- 0, 1, 1, 0, whose first m is above its n, and chains with two faults each. On each line stands the number that is handed back, behind the
--- faults.
+-- 0, 1, 1, 0, whose first m is above its n, chains with two faults each, and some under method 5. The numbers that are handed back stand in a list behind
+-- them.
 use mathlib.Core.Path.{_≡_}
 use mathlib.Core.List.{List, [], _∷_, _++_}
 use Prim.Native.Nat.{ℕ}
@@ -71,7 +71,7 @@ Order-worked =
     ∷ refused (first-by-5 0) (second 2 2 1) S T both-zero zeros 39 34
     ∷ refused (first 2) (second 5 2 0) S T zeros both-zero 34 39
     ∷ refused (first-by-5 0) (second 5 2 0) S T both-zero both-zero 39 39
-    -- its 10 and 12 as the first's, and 12 before the second's 10; its 12 before its 13 as the second's, then 13, 19 and 14
+    -- its 10 and 12 as the first's, and 12 before the second's 10; as the second's its 10 before 13, 12 before 13, then 13, 19 before 14, and 14
     ∷ refused (first-by-5 4) (second 5 2 1) S T both-zero both-zero 39 39
     ∷ refused (first-by-5 1) (second 5 2 4) S T both-zero both-zero 39 39
     ∷ refused (first-by-5 0) (second 5 2 4) S T both-zero zeros 39 39

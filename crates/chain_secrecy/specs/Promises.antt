@@ -21,7 +21,7 @@ use Rattle.chain.specs.Chain.{chain-refusal}
 use Rattle.chain_secrecy.specs.Count.{Boxes, boxes, boxes-of, Which, first, second, entries, chain-widths, first-case, second-own}
 use Rattle.chain_secrecy.specs.Count.{defined-logs, left-logs, chain-count, chain-call-count}
 
--- all nine pairings of methods
+-- all nine pairings of the methods 2, 3 and 5 (`Methods-known` of `lookup`)
 abbrev pub Paired : Boxes → Type 0
 Paired k = (known (k .first-method) ≡ true) × (known (k .second-method) ≡ true)
 
@@ -115,7 +115,8 @@ Choices-counted =
 -- two out, there are 2048 too: with 0, 1, 1, 0 second 256 show the masked entry of turn 0 as 3 and the second's x0 as 0, for either input; with
 -- 0, 0, 0, 1 second its masked entry of turn 0 and its answer are both 0 for 768 where the input is 0, and for 256 where it is 1. Under method 5
 -- twice there are 64: none shows the first's answer as 0 and the second's x0 as 1; 32 show the first's s1 and the second's r1 as 0. With
--- 0, 0, 0, 1 first there are 256: kind 12 of turn 0 and the second's x0 are both 0 for 96 where the input is 0, and for 32 where it is 3
+-- 0, 0, 0, 1 first there are 256: kind 12 of turn 0 and the second's x0 are both 0 for 96 where the input is 0, and for 32 where it is 3; with
+-- method 2 second there are 512, and these are 192 and 64
 unfoldable pub Counts-computed : Type 0
 Counts-computed =
     chain-count (1 ∷ 0 ∷ []) (1 ∷ 0 ∷ []) (boxes 2 2 1 1 1) 0 first second 21 0 0 1
@@ -132,5 +133,7 @@ Counts-computed =
     ∷ chain-count (1 ∷ 0 ∷ []) (1 ∷ 0 ∷ []) (boxes 5 5 1 1 1) 0 first second 3 1 0 0
     ∷ chain-count (0 ∷ 0 ∷ 0 ∷ 1 ∷ []) (1 ∷ 0 ∷ []) (boxes 5 5 2 1 1) 0 first second 24 0 0 0
     ∷ chain-count (0 ∷ 0 ∷ 0 ∷ 1 ∷ []) (1 ∷ 0 ∷ []) (boxes 5 5 2 1 1) 3 first second 24 0 0 0
+    ∷ chain-count (0 ∷ 0 ∷ 0 ∷ 1 ∷ []) (1 ∷ 0 ∷ []) (boxes 5 2 2 1 1) 0 first second 24 0 0 0
+    ∷ chain-count (0 ∷ 0 ∷ 0 ∷ 1 ∷ []) (1 ∷ 0 ∷ []) (boxes 5 2 2 1 1) 3 first second 24 0 0 0
     ∷ []
-    ≡ 0 ∷ 64 ∷ 256 ∷ 256 ∷ 768 ∷ 256 ∷ 256 ∷ 256 ∷ 768 ∷ 256 ∷ 0 ∷ 32 ∷ 96 ∷ 32 ∷ []
+    ≡ 0 ∷ 64 ∷ 256 ∷ 256 ∷ 768 ∷ 256 ∷ 256 ∷ 256 ∷ 768 ∷ 256 ∷ 0 ∷ 32 ∷ 96 ∷ 32 ∷ 192 ∷ 64 ∷ []

@@ -1,10 +1,12 @@
 -- What is promised of an accepted lookup holds.
 use mathlib.Core.Path.{_≡_, refl, sym, ap, subst, _∙_}
 use mathlib.Core.Logic.{inl, inr}
-use mathlib.Core.Bool.{_||_, or-false}
+use mathlib.Core.Bool.{Bool, false, _||_, or-false}
 use mathlib.Core.List.{List, map}
-use Prim.Native.Nat.{ℕ, max, _+_, _%_, _^_, _≤_, _<_}
+use Prim.Native.Nat.{ℕ, max, _+_, _-_, _%_, _^_, _≤_, _<_}
 use native.Mathlib.Omega.{arith}
+use borrow.Author.Tests.{le-ltb}
+use lib.Dec.{ltb}
 use lib.ListN.{length, replicate}
 use lib.Pow.{pow-pos}
 use Rattle.bits.specs.Xor.{_⊕_}
@@ -19,11 +21,12 @@ use Rattle.lookup.specs.Row.{Row, row-entry, masked}
 use Rattle.lookup.specs.Method.{Method}
 use Rattle.lookup.specs.Methods.{among, found, known, method-of}
 use Rattle.lookup.specs.Call.{answer, scratch-after, log-of, log-length, scratch-length}
-use Rattle.lookup.specs.Promises.{Methods-known, Answer-right, Answer-small, Answers-agree, Answer-kept}
+use Rattle.lookup.specs.Refusals.{untaken}
+use Rattle.lookup.specs.Promises.{Methods-known, Untaken-right, Answer-right, Answer-small, Answers-agree, Answer-kept}
 use Rattle.lookup.specs.Promises.{Rest-kept, Began-clean, Zeros-taken, Cleared-taken}
 use Rattle.lookup.specs.Promises.{Lengths-right, Log-long, Values-small, Log-read-back, Entry-read-back, Wide-as-narrow}
 use Rattle.lookup.proofs.Each.{Each, each-map, each-at}
-use Rattle.lookup.proofs.Methods.{of-each, method-2-of, method-5-of}
+use Rattle.lookup.proofs.Methods.{of-each, method-2-of, method-3-of, method-5-of}
 use Rattle.lookup.proofs.Entry.{entry-kind, entry-value, value-zero, value-kept, entry-small, byte-fits, none-large}
 use Rattle.lookup.proofs.Entry.{narrow-kind, narrow-value, narrow-small}
 use Rattle.lookup.proofs.Accepted.{Taken, accepted}
@@ -47,6 +50,18 @@ answer-is c table taken =
 pub methods-known : Methods-known
 unfolding Methods-known known among
 methods-known method = simp or-false
+
+pub untaken-right : Untaken-right
+unfolding Untaken-right untaken
+untaken-right c h =
+    let fits : ltb (Q c - 1) (c .r3) ≡ false = le-ltb (Q c - 1) (c .r3) (omega (arith, h)) in (
+      λ m. ap refused-by (method-2-of (c .method) m) ∙ rw fits,
+      λ m. ap refused-by (method-3-of (c .method) m) ∙ rw fits,
+      λ m. ap refused-by (method-5-of (c .method) m),
+    )
+  where
+    refused-by : Method → Bool
+    refused-by f = ltb (f .r3-most (Q c)) (c .r3) || ltb (f .b-most) (c .b)
 
 pub answer-right : Answer-right
 unfolding Answer-right masked

@@ -1,4 +1,4 @@
--- What a run of either method asks of its case's numbers: the calls make sure of it by their checks.
+-- What a run of any method asks of its case's numbers: the calls make sure of it by their checks.
 use Prim.Native.Nat.{_^_, _≤_, _<_}
 use Rattle.lookup.specs.declared.Case.{Case}
 

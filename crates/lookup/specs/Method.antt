@@ -13,7 +13,7 @@ pub record Method : Type 0 where
   -- the scratch that it leaves, and its answer
   pub scratch : Case → (table scratch : List ℕ) → List ℕ
   pub answer : Case → (table : List ℕ) → ℕ
-  -- the largest r3 that it takes, for a table of so many entries, and the largest b
+  -- the largest r3 that it takes, for a table of so many entries, and the largest b; 0 where it draws none
   pub r3-most : (inputs : ℕ) → ℕ
   pub b-most : ℕ
   -- the classes of the masks r1, r2, r3, s1, s2 and b, over which a choice runs

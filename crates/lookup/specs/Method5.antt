@@ -1,4 +1,4 @@
--- Method 5, of Schramm and Paar: the table is copied to the first half of the scratch under one mask of its index and one of its entries,
+-- Method 5, Algorithm 5 of Rivain, Dottax and Prouff, which is Schramm and Paar's: the table is copied to the first half of the scratch under one mask of its index and one of its entries,
 -- and from there to the second half under the others, where the answer is read.
 use mathlib.Core.List.{List, [], _∷_, _++_, map}
 use Prim.Native.Nat.{ℕ, _*_}
@@ -36,11 +36,15 @@ abbrev pub head-5 : List Row
 head-5 = 1 ∶ x0 ∷ 2 ∶ r1 ∷ 3 ∶ r2 ∷ 4 ∶ s1 ∷ 5 ∶ s2 ∷ []
 
 abbrev pub first-pass-5 : List Row
-first-pass-5 = 6 ∶ turn ∷ 7 ∶ (λ c table a. a ⊕ c .r1) ∷ 8 ∶ (λ c table a. at table (a ⊕ c .r1)) ∷ 9 ∶ (λ c table a. copied (c .r1) (c .s1) table a) ∷ []
+first-pass-5 =
+    6 ∶ turn ∷ 7 ∶ (λ c table a. a ⊕ c .r1) ∷ 8 ∶ (λ c table a. at table (a ⊕ c .r1))
+    ∷ 9 ∶ (λ c table a. copied (c .r1) (c .s1) table a) ∷ []
 
--- what the second pass shows of the half that it reads, and that this is the first half
+-- the second pass's rows, of whatever half it reads; and those rows where that is the first half
 abbrev pub half-pass-5 : List Row
-half-pass-5 = 6 ∶ turn ∷ 10 ∶ (λ c half a. a ⊕ c .r2) ∷ 11 ∶ (λ c half a. at half (a ⊕ c .r2)) ∷ 12 ∶ (λ c half a. copied (c .r2) (c .s2) half a) ∷ []
+half-pass-5 =
+    6 ∶ turn ∷ 10 ∶ (λ c half a. a ⊕ c .r2) ∷ 11 ∶ (λ c half a. at half (a ⊕ c .r2))
+    ∷ 12 ∶ (λ c half a. copied (c .r2) (c .s2) half a) ∷ []
 
 abbrev pub second-pass-5 : List Row
 second-pass-5 = map (λ r. r .kind ∶ (λ c table a. r .value c (first-half c table) a)) half-pass-5

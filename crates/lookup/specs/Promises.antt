@@ -4,7 +4,7 @@ use mathlib.Core.Logic.{_⊎_}
 use mathlib.Core.Bool.{false, _||_}
 use mathlib.Core.List.{List, map}
 use Prim.Native.Nat.{ℕ, max, _+_, _*_, _^_, _≤_, _<_}
-use lib.Dec.{eqb}
+use lib.Dec.{ltb, eqb}
 use lib.ListN.{length, take, drop, replicate}
 use Rattle.bits.specs.Xor.{_⊕_}
 use Rattle.refusals.specs.Tests.{any-from}
@@ -16,11 +16,18 @@ use Rattle.lookup.specs.NarrowEntry.{narrow-log, Says-the-same}
 use Rattle.lookup.specs.Layout.{lines}
 use Rattle.lookup.specs.Methods.{known, method-of}
 use Rattle.lookup.specs.Call.{answer, scratch-after, log-of, log-length, scratch-length}
-use Rattle.lookup.specs.Refusals.{case-refusal, plain-refusal, logged-refusal}
+use Rattle.lookup.specs.Refusals.{untaken, case-refusal, plain-refusal, logged-refusal}
 
 -- the methods' numbers
 unfoldable pub Methods-known : Type 0
 Methods-known = (method : ℕ) → known method ≡ (eqb method 2 || (eqb method 3 || eqb method 5))
+
+-- which r3 and which b are refused with 12, once r3 has passed 10
+unfoldable pub Untaken-right : Type 0
+Untaken-right =
+    (c : Case) → c .r3 < Q c →
+    (c .method ≡ 2 → untaken c ≡ ltb 0 (c .b)) × (c .method ≡ 3 → untaken c ≡ ltb 1 (c .b))
+    × (c .method ≡ 5 → untaken c ≡ (ltb 0 (c .r3) || ltb 0 (c .b)))
 
 -- the answer joined with both output masks is the table's entry for the input
 unfoldable pub Answer-right : Type 0

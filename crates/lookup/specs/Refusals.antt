@@ -16,7 +16,8 @@ use Rattle.lookup.specs.Call.{log-length, scratch-length}
 unfoldable pub method-checks : Case → List Check
 method-checks c = 2 when (not (known (c .method))) ∷ []
 
--- an r3 or a b that the method does not take
+-- an r3 or a b that the method does not take: under method 5 one that is not 0; under methods 2 and 3 a b above 0 or above 1, and no r3 that
+-- has passed 10 (`Untaken-right` of Promises.antt)
 unfoldable pub untaken : Case → Bool
 untaken c = ltb (method-of (c .method) .r3-most (Q c)) (c .r3) || ltb (method-of (c .method) .b-most) (c .b)
 

@@ -1,4 +1,4 @@
-// A masked table lookup's numbers, and the masked entry that both methods make. Their definitions stand in specs/.
+// A masked table lookup's numbers, and the masked entry that methods 2 and 3 make. Their definitions stand in specs/.
 ghost use mathlib.Core.Path.{_≡_};
 ghost use Prim.Native.Nat.{_^_, _<_};
 ghost use lib.ListN.{length, getD, set};

@@ -1,4 +1,5 @@
-// The methods by their numbers: what each needs and allows, and its runs. A later method has one line in each function here.
+// The methods by their numbers: what each needs and allows, and its runs. A later method has one line in each function here; in the last three,
+// which are asked for known methods alone, method 5 is what is left, and gets a test of its own then.
 ghost use mathlib.Core.Path.{_≡_};
 ghost use mathlib.Core.Bool.{true};
 ghost use mathlib.Core.List.{map};

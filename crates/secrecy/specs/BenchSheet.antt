@@ -1,5 +1,5 @@
 -- The bench sheet: P1 to P12, worked cases that were given with the product's requirements, P5 as it reads since a table's m may be above its
--- n; and beside them fit tables, 19 and some counts. On each line stand what the definitions come to, and what the sheet says.
+-- n; and beside them method 5, fit tables, 19 and some counts. On each line stand what the definitions come to, and what the sheet says.
 use mathlib.Core.Path.{_≡_}
 use mathlib.Core.List.{List, [], _∷_, _++_, map}
 use Prim.Native.Nat.{ℕ, suc}
@@ -69,9 +69,10 @@ sheet =
     ∷ (refused (case-from 2 2 3 0 1 2 3 0 2 0) A 4 34 ∷ refused (case-from 2 2 9 0 1 2 3 0 2 0) A 4 34 ∷ []) says (0 ∷ 4 ∷ [])
     -- the linear layer keeps the old 4, m above n: n = 2 with three rows; with two accepted
     ∷ (layer 2 3 (1 ∷ 2 ∷ 3 ∷ []) 0 0 0 0 .refusal ∷ layer 2 2 (1 ∷ 2 ∷ []) 0 0 0 0 .refusal ∷ []) says (4 ∷ 0 ∷ [])
-    -- 0, 3, one bit in and two out, which is fit and not balanced (examples/valve.sheet): x = 1, answer 3 ⊕ 3 ⊕ 1 under methods 2 and 3
+    -- 0, 3, one bit in and two out, which is fit and not balanced (examples/valve.sheet): x = 1, answer 3 ⊕ 3 ⊕ 1 under each method
     ∷ (refused (case-from 2 1 2 0 1 0 3 1 1 0) (0 ∷ 3 ∷ []) 2 22 ∷ answer (case-from 2 1 2 0 1 0 3 1 1 0) (0 ∷ 3 ∷ []) ∷ []) says (0 ∷ 1 ∷ [])
     ∷ (refused (case-from 3 1 2 0 1 0 3 1 1 1) (0 ∷ 3 ∷ []) 2 28 ∷ answer (case-from 3 1 2 0 1 0 3 1 1 1) (0 ∷ 3 ∷ []) ∷ []) says (0 ∷ 1 ∷ [])
+    ∷ (refused (case-from 5 1 2 0 1 0 3 1 0 0) (0 ∷ 3 ∷ []) 4 23 ∷ answer (case-from 5 1 2 0 1 0 3 1 0 0) (0 ∷ 3 ∷ []) ∷ []) says (0 ∷ 1 ∷ [])
     -- fit too: 1, 2, though 1 ⊕ 2 does not occur; and a constant table, 0, 0, with one bit out and with two
     ∷ (refused (case-from 2 1 2 0 1 0 3 1 1 0) (1 ∷ 2 ∷ []) 2 22 ∷ refused (case-from 2 1 1 0 1 0 0 1 1 0) (0 ∷ 0 ∷ []) 2 22
     ∷ refused (case-from 2 1 2 0 1 0 3 1 1 0) (0 ∷ 0 ∷ []) 2 22 ∷ []) says (0 ∷ 0 ∷ 0 ∷ [])

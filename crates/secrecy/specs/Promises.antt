@@ -24,15 +24,15 @@ abbrev pub Alike-at : (table : List ℕ) → (method n m i j : ℕ) → Type 0
 Alike-at table method n m i j =
     (x y u v : ℕ) → x < 2 ^ n → y < 2 ^ n → count table method n m x i j u v ≡ count table method n m y i j u v
 
--- for every fit table, balanced ones among them (`Balanced-fit` of `table`), each method, any two positions, the same one twice included, any
+-- for every fit table, balanced ones among them (`Balanced-fit` of `table`), each method (2, 3 and 5: `Methods-known` of `lookup`), any two positions, the same one twice included, any
 -- two values and any two inputs: as many choices of all masks put those values there for the one input as for the other
 unfoldable pub Tells-nothing : Type 0
 Tells-nothing =
     (table : List ℕ) (method n m x y i j u v : ℕ) → fit n m table ≡ true → known method ≡ true → x < 2 ^ n → y < 2 ^ n →
     count table method n m x i j u v ≡ count table method n m y i j u v
 
--- and no other table does: one that is refused with 7 tells something under each method, by the twice masked entry of turn 0 and the answer:
--- they do not count equally for all inputs. So no table that is safe is refused with 7
+-- and no other table does: one that is refused with 7 tells something under each method, by the twice masked entry of turn 0, under method 5 of
+-- the second pass, and the answer: they do not count equally for all inputs. So no table that is safe is refused with 7
 unfoldable pub Unfit-tells : Type 0
 Unfit-tells =
     (table : List ℕ) (n m : ℕ) → table-refusal n m table ≡ 7 →
@@ -45,7 +45,8 @@ Even-tells-nothing =
     (table : List ℕ) (method n m x y i j u v : ℕ) → Even n (at table) → ((z : ℕ) → at table z < 2 ^ m) → known method ≡ true →
     x < 2 ^ n → y < 2 ^ n → count table method n m x i j u v ≡ count table method n m y i j u v
 
--- of a table that is accepted, these are the counts of the narrow entries that logs had before: the demand is the one that it was
+-- of a table that is accepted, these are the counts of the narrow entries that logs had before: the demand is the one that it was (method 5 came
+-- later; its rows are packed the same way)
 unfoldable pub Counts-as-narrow : Type 0
 Counts-as-narrow =
     (table : List ℕ) (method n m x i j u v : ℕ) → table-refusal n m table ≡ 0 → known method ≡ true → x < 2 ^ n →
