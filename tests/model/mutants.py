@@ -8,6 +8,7 @@ import chain
 import chain_cases
 import check
 import check_leaks
+import check_methods
 import check_selection
 import counts
 import frame
@@ -99,6 +100,7 @@ def complaints(module, edits):
 GROUPS = (
     *((selection, "run", getattr(check_selection, group), pieces) for group, pieces in ALONE.items()),
     (methods, "run_method_5", check_leaks.leaking, LEAKING),
+    (methods, "recomputed", check_methods.by_hand, METHODS["recomputed"]),
 )
 
 

@@ -19,7 +19,7 @@ use Rattle.table.specs.Fit.{occurs, each-value, equally-often, closed, fit}
 use Rattle.table.specs.Tabulate.{tabulate}
 use Rattle.table.specs.Refusals.{table-checks, table-refusal}
 use Rattle.lookup.specs.Case.{Q}
-use Rattle.lookup.specs.Entry.{entry, value-of}
+use Rattle.lookup.specs.Entry.{entry, kind-of, value-of}
 use Rattle.lookup.specs.Row.{masked}
 use Rattle.lookup.specs.Method2.{r-prime, scratch-2, answer-2}
 use Rattle.lookup.specs.Method3.{comparison-table, scratch-3, place-3, compared, registers-3, answer-3}
@@ -57,14 +57,14 @@ by-parts (suc k) (l ∷ ls) p q =
     ap₂ _∷_ here (by-parts k ls later q)
 
 -- the lines before P6's accepted table, and those behind it
-in-front : map (λ l. l .comes-to) (take 16 sheet) ≡ map (λ l. l .given) (take 16 sheet)
+in-front : map (λ l. l .comes-to) (take 18 sheet) ≡ map (λ l. l .given) (take 18 sheet)
 unfolding sheet layer-refusal layer reply odd-common mapped ones first-of outside any-from at count-of occurs each-value equally-often
     closed fit table-checks Q masked r-prime scratch-2 answer-2 comparison-table scratch-3 place-3 compared registers-3 answer-3 tabulate copied scratch-5 answer-5
-    scratch-after answer among found known method-of log-length scratch-length method-checks untaken mask-checks dirty scratch-checks
+    scratch-after answer pass-lines passes-lines lines entry kind-of value-of log-of among found known method-of log-length scratch-length method-checks untaken mask-checks dirty scratch-checks
     log-checks box-checks case-checks case-refusal logged-refusal _⊕_
 in-front = refl
 
-behind : map (λ l. l .comes-to) (drop 1 (drop 16 sheet)) ≡ map (λ l. l .given) (drop 1 (drop 16 sheet))
+behind : map (λ l. l .comes-to) (drop 1 (drop 18 sheet)) ≡ map (λ l. l .given) (drop 1 (drop 18 sheet))
 unfolding sheet _⊕_ sum over first-of outside any-from width-refusal reply secret-reply join odd-common mapped
     layer-refusal layer ones at count-of occurs each-value equally-often closed fit table-checks Q masked r-prime scratch-2 answer-2
     comparison-table scratch-3 place-3 compared registers-3 answer-3 tabulate copied scratch-5 answer-5 scratch-after answer pass-lines passes-lines lines entry
@@ -77,7 +77,7 @@ taken : table-refusal 2 1 (0 ∷ 1 ∷ 1 ∷ 0 ∷ []) ≡ 0
 unfolding table-refusal table-checks first-of outside any-from count-of occurs each-value equally-often closed fit _⊕_
 taken = refl
 
-accepted-table : map (λ l. l .comes-to) (take 1 (drop 16 sheet)) ≡ map (λ l. l .given) (take 1 (drop 16 sheet))
+accepted-table : map (λ l. l .comes-to) (take 1 (drop 18 sheet)) ≡ map (λ l. l .given) (take 1 (drop 18 sheet))
 unfolding sheet scratch-length log-length known among method-of found dirty any-from
 accepted-table =
     let none = all-masks-accepted (0 ∷ 1 ∷ 1 ∷ 0 ∷ []) in
@@ -88,4 +88,4 @@ accepted-table =
 
 pub sheet-right : Sheet-right
 unfolding Sheet-right
-sheet-right = by-parts 16 sheet in-front (by-parts 1 (drop 16 sheet) accepted-table behind)
+sheet-right = by-parts 18 sheet in-front (by-parts 1 (drop 18 sheet) accepted-table behind)

@@ -8,7 +8,8 @@ use Rattle.counting.specs.Choice.{over}
 use Rattle.shares.specs.Shares.{join}
 use Rattle.linear.specs.Layer.{layer}
 use Rattle.lookup.specs.declared.Case.{Case}
-use Rattle.lookup.specs.Call.{answer, scratch-after}
+use Rattle.lookup.specs.Entry.{kind-of, value-of}
+use Rattle.lookup.specs.Call.{answer, scratch-after, log-of}
 use Rattle.lookup.specs.Refusals.{logged-refusal}
 use Rattle.calls.specs.Reply.{case-from}
 use Rattle.secrecy.specs.Count.{single, chosen-case, mask-widths, count}
@@ -28,7 +29,10 @@ A = 2 ∷ 0 ∷ 3 ∷ 1 ∷ []
 abbrev P2 : Case
 P2 = case-from 2 2 2 0 1 2 3 0 2 0
 
--- and that of P2 under method 5, which takes no r3 and no b
+-- the calls of P1 and P2 under method 5, which takes no r3 and no b
+abbrev P1-by-5 : Case
+P1-by-5 = case-from 5 1 1 0 1 0 0 1 0 0
+
 abbrev P2-by-5 : Case
 P2-by-5 = case-from 5 2 2 0 1 2 3 0 0 0
 
@@ -63,6 +67,11 @@ sheet =
     -- P2 under method 5: scratch 3, 1, 2, 0 and behind it 2, 0, 3, 1, answer 2
     ∷ scratch-after P2-by-5 A (replicate 8 0) says (3 ∷ 1 ∷ 2 ∷ 0 ∷ 2 ∷ 0 ∷ 3 ∷ 1 ∷ [])
     ∷ (refused P2-by-5 A 8 39 ∷ answer P2-by-5 A ∷ []) says (0 ∷ 2 ∷ [])
+    -- P1 under method 5: the whole log, its kinds and its values
+    ∷ map kind-of (log-of P1-by-5 (1 ∷ 0 ∷ []))
+    says (1 ∷ 2 ∷ 3 ∷ 4 ∷ 5 ∷ 6 ∷ 7 ∷ 8 ∷ 9 ∷ 6 ∷ 7 ∷ 8 ∷ 9 ∷ 6 ∷ 10 ∷ 11 ∷ 12 ∷ 6 ∷ 10 ∷ 11 ∷ 12 ∷ 1 ∷ 13 ∷ [])
+    ∷ map value-of (log-of P1-by-5 (1 ∷ 0 ∷ []))
+    says (0 ∷ 1 ∷ 0 ∷ 0 ∷ 1 ∷ 0 ∷ 1 ∷ 0 ∷ 0 ∷ 1 ∷ 0 ∷ 1 ∷ 1 ∷ 0 ∷ 0 ∷ 0 ∷ 1 ∷ 1 ∷ 1 ∷ 1 ∷ 0 ∷ 0 ∷ 1 ∷ [])
     -- P4: x0 = 4: 10; x0 = 3 is accepted
     ∷ (refused (case-from 2 2 2 4 1 2 3 0 2 0) A 4 34 ∷ refused (case-from 2 2 2 3 1 2 3 0 2 0) A 4 34 ∷ []) says (10 ∷ 0 ∷ [])
     -- P5 with P2's other arguments: n = 2, m = 3 is accepted, since a table's m may be above its n; m = 9 is 4
