@@ -33,7 +33,8 @@ module _ (c : Case) (inputs : ℕ) (i : inputs ≡ 2 ^ c .n) where
   wide-r3 h = wide (some-later _ _ _ (some-later _ _ _ (some-later _ _ _ (some-here _ _ _ (rw i at h)))))
 
   module _ (x0 : c .x0 < inputs) (r1 : c .r1 < inputs) (r2 : c .r2 < inputs) (r3 : c .r3 < inputs) where
-    after-10 : {r : ℕ} → r ≡ first-of (11 when (any-from (2 ^ c .m) (c .s1 ∷ c .s2 ∷ [])) ∷ 12 when (untaken c) ∷ []) → r ≡ first-of (mask-checks c)
+    after-10 : {r : ℕ} → r ≡ first-of (11 when (any-from (2 ^ c .m) (c .s1 ∷ c .s2 ∷ [])) ∷ 12 when (untaken c) ∷ [])
+        → r ≡ first-of (mask-checks c)
     unfolding mask-checks Q
     after-10 h =
         goes 10 _ (rw (← i) (one-below _ _ _ x0 (one-below _ _ _ r1 (one-below _ _ _ r2 (one-below _ _ _ r3 (none-below _)))))) h

@@ -19,6 +19,6 @@ use Rattle.chain.specs.Order.{Order-worked}
 
 pub order-worked : Order-worked
 unfolding Order-worked chain-refusal chain-checks following second-case answer first-of outside any-from at count-of occurs each-value
-    equally-often closed fit table-checks Q masked r-prime scratch-2 answer-2 tabulate copied answer-5 among found known method-of log-length scratch-length method-checks
-    untaken mask-checks dirty scratch-checks log-checks box-checks other-checks _⊕_
+    equally-often closed fit table-checks Q masked r-prime scratch-2 answer-2 tabulate copied answer-5 among found known method-of
+    log-length scratch-length method-checks untaken mask-checks dirty scratch-checks log-checks box-checks other-checks _⊕_
 order-worked = refl

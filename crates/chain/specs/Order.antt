@@ -1,6 +1,6 @@
 -- The order of a chain's refusals in cases that compute: a chain of the tables 2, 0, 3, 1 and 0, 1, 1, 0 that is accepted, one of 0, 3 and
--- 0, 1, 1, 0, whose first m is above its n, chains with two faults each, and some under method 5. The numbers that are handed back stand in a list behind
--- them.
+-- 0, 1, 1, 0, whose first m is above its n, chains with two faults each, and some under method 5. The numbers that are handed back stand in a
+-- list behind them.
 use mathlib.Core.Path.{_≡_}
 use mathlib.Core.List.{List, [], _∷_, _++_}
 use Prim.Native.Nat.{ℕ}

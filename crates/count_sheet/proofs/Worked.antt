@@ -46,7 +46,7 @@ p12-right x h =
 
 pub worked-right : Worked-right
 unfolding Worked-right _⊕_ sum over first-of outside any-from left in-front at count-of occurs each-value equally-often closed fit
-    table-checks tabulate Q entry value-of masked r-prime scratch-2 answer-2 comparison-table place-3 compared registers-3 answer-3 copied answer-5 among found known
-    method-of log-of log-length scratch-length pass-lines passes-lines lines chosen-case mask-widths value-at shows count value-width pair-checks
-    buffer-checks sheet-checks count-refusal count-for counts sheet-left
+    table-checks tabulate Q entry value-of masked r-prime scratch-2 answer-2 comparison-table place-3 compared registers-3 answer-3 copied
+    answer-5 among found known method-of log-of log-length scratch-length pass-lines passes-lines lines chosen-case mask-widths value-at
+    shows count value-width pair-checks buffer-checks sheet-checks count-refusal count-for counts sheet-left
 worked-right = (refl, refl, refl, refl, refl)

@@ -1,5 +1,5 @@
 -- On clean scratch every call accepts every choice that is counted, and what the calls leave in the lent logs is what is counted.
-use mathlib.Core.Path.{_≡_, refl, ap}
+use mathlib.Core.Path.{_≡_, ap}
 use mathlib.Core.List.{List}
 use Prim.Native.Nat.{ℕ, _<_}
 use Rattle.counting.specs.Choice.{Within}

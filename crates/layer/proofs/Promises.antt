@@ -1,5 +1,5 @@
 -- A layer's promises hold, since each call alone tells nothing, and is accepted on clean scratch.
-use mathlib.Core.Path.{_≡_, refl, ap, _∙_}
+use mathlib.Core.Path.{_≡_, ap, _∙_}
 use Prim.Native.Nat.{ℕ, _+_, _*_, _^_, _<_}
 use native.Mathlib.Omega.{arith}
 use Rattle.counting.specs.Choice.{total}

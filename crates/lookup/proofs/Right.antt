@@ -112,7 +112,8 @@ module _ (method : Method) (c : Case) (table : List ℕ) (k : Accepted method c 
 
   head-small-5 : Each (Small c table 0) head-5
   head-small-5 =
-      more (input 1 tt (k .x0)) (more (input 2 tt (k .r1)) (more (input 3 tt (k .r2)) (more (output 4 tt (k .s1)) (more (output 5 tt (k .s2)) none))))
+      more (input 1 tt (k .x0)) (more (input 2 tt (k .r1)) (more (input 3 tt (k .r2))
+      (more (output 4 tt (k .s1)) (more (output 5 tt (k .s2)) none))))
 
   first-small-5 : (a : ℕ) → a < Q c → Each (Small c table a) first-pass-5
   unfolding copied

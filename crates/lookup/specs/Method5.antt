@@ -1,5 +1,5 @@
--- Method 5, Algorithm 5 of Rivain, Dottax and Prouff, which is Schramm and Paar's: the table is copied to the first half of the scratch under one mask of its index and one of its entries,
--- and from there to the second half under the others, where the answer is read.
+-- Method 5, Algorithm 5 of Rivain, Dottax and Prouff, which is Schramm and Paar's: the table is copied to the first half of the scratch under one
+-- mask of its index and one of its entries, and from there to the second half under the others, where the answer is read.
 use mathlib.Core.List.{List, [], _∷_, _++_, map}
 use Prim.Native.Nat.{ℕ, _*_}
 use lib.ListN.{drop}

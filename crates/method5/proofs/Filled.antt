@@ -1,5 +1,5 @@
 -- Both halves make the scratch of the definition, and the answer stands there.
-use mathlib.Core.Path.{_≡_, sym, ap, _∙_}
+use mathlib.Core.Path.{_≡_, ap, _∙_}
 use mathlib.Core.List.{List, _++_}
 use Prim.Native.Nat.{ℕ, _+_, _*_, _^_, _≤_, _<_}
 use native.Mathlib.Omega.{arith}
@@ -9,7 +9,6 @@ use Rattle.bits.proofs.Xor.{below}
 use Rattle.buffers.specs.Written.{written, in-front}
 use Rattle.buffers.proofs.Written.{written-more, written-front, in-front-at}
 use Rattle.table.specs.Balanced.{at}
-use Rattle.table.specs.Tabulate.{tabulate}
 use Rattle.table.proofs.Tabulate.{tabulate-at, tabulate-long, tabulate-only}
 use Rattle.lookup.specs.declared.Case.{Case}
 use Rattle.lookup.specs.Case.{Q}

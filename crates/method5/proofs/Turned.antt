@@ -4,11 +4,9 @@ use mathlib.Core.List.{List, [], _∷_, map}
 use Prim.Native.Nat.{ℕ, _+_, _*_, _^_, _≤_, _<_}
 use native.Mathlib.Omega.{arith}
 use lib.ListN.{length, getD}
-use Rattle.bits.specs.Xor.{_⊕_}
 use Rattle.buffers.specs.Written.{written, in-front}
 use Rattle.log_entries.specs.Entries.{entries}
 use Rattle.log_entries.proofs.Logging.{Logging, rows-entries, rows-room, rows-turns, none-passed, one-passed, passed-written, layout-passed}
-use Rattle.table.specs.Balanced.{at}
 use Rattle.lookup.specs.declared.Case.{Case}
 use Rattle.lookup.specs.Case.{Q}
 use Rattle.lookup.specs.Bounded.{Bounded}

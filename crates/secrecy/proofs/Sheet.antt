@@ -59,17 +59,18 @@ by-parts (suc k) (l ∷ ls) p q =
 -- the lines before P6's accepted table, and those behind it
 in-front : map (λ l. l .comes-to) (take 18 sheet) ≡ map (λ l. l .given) (take 18 sheet)
 unfolding sheet layer-refusal layer reply odd-common mapped ones first-of outside any-from at count-of occurs each-value equally-often
-    closed fit table-checks Q masked r-prime scratch-2 answer-2 comparison-table scratch-3 place-3 compared registers-3 answer-3 tabulate copied scratch-5 answer-5
-    scratch-after answer pass-lines passes-lines lines entry kind-of value-of log-of among found known method-of log-length scratch-length method-checks untaken mask-checks dirty scratch-checks
-    log-checks box-checks case-checks case-refusal logged-refusal _⊕_
+    closed fit table-checks Q masked r-prime scratch-2 answer-2 comparison-table scratch-3 place-3 compared registers-3 answer-3 tabulate
+    copied scratch-5 answer-5 scratch-after answer pass-lines passes-lines lines entry kind-of value-of log-of among found known method-of
+    log-length scratch-length method-checks untaken mask-checks dirty scratch-checks log-checks box-checks case-checks case-refusal
+    logged-refusal _⊕_
 in-front = refl
 
 behind : map (λ l. l .comes-to) (drop 1 (drop 18 sheet)) ≡ map (λ l. l .given) (drop 1 (drop 18 sheet))
-unfolding sheet _⊕_ sum over first-of outside any-from width-refusal reply secret-reply join odd-common mapped
-    layer-refusal layer ones at count-of occurs each-value equally-often closed fit table-checks Q masked r-prime scratch-2 answer-2
-    comparison-table scratch-3 place-3 compared registers-3 answer-3 tabulate copied scratch-5 answer-5 scratch-after answer pass-lines passes-lines lines entry
-    value-of among found known method-of log-of log-length scratch-length method-checks untaken mask-checks dirty scratch-checks log-checks
-    box-checks case-checks case-refusal logged-refusal chosen-case mask-widths value-at shows count
+unfolding sheet _⊕_ sum over first-of outside any-from width-refusal reply secret-reply join odd-common mapped layer-refusal layer ones at
+    count-of occurs each-value equally-often closed fit table-checks Q masked r-prime scratch-2 answer-2 comparison-table scratch-3
+    place-3 compared registers-3 answer-3 tabulate copied scratch-5 answer-5 scratch-after answer pass-lines passes-lines lines entry
+    value-of among found known method-of log-of log-length scratch-length method-checks untaken mask-checks dirty scratch-checks
+    log-checks box-checks case-checks case-refusal logged-refusal chosen-case mask-widths value-at shows count
 behind = refl
 
 -- P6's accepted table

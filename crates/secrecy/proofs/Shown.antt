@@ -18,7 +18,7 @@ use Rattle.lookup.specs.Row.{Row, masked}
 use Rattle.lookup.specs.Method.{Method}
 use Rattle.lookup.specs.Method2.{r-prime, pass-2, method-2}
 use Rattle.lookup.specs.Method3.{place-3, compared, pass-3, method-3}
-use Rattle.lookup.specs.Method5.{copied, first-half, first-pass-5, second-pass-5, method-5}
+use Rattle.lookup.specs.Method5.{copied, first-pass-5, second-pass-5, method-5}
 use Rattle.lookup.proofs.Second.{answer-2-is}
 use Rattle.lookup.proofs.Third.{answer-3-is, compared-hit, compared-miss, place-below}
 use Rattle.lookup.proofs.Fifth.{read-is, answer-5-is}
@@ -135,5 +135,7 @@ module _ (s : Call-places) (number n m x : ℕ) (table : List ℕ) (setting : Se
         record {
           head = rw (k .input);
           passes = one-pass first-same-5 (one-pass second-same-5 no-pass);
-          end = rw (k .input) (ap (λ v. (x ⊕ masks (s .masks .r1) ⊕ masks (s .masks .r2)) ∷ v ∷ []) (answer-5-is case table x0 (k .r2) ∙ answering method-5 k));
+          end =
+              rw (k .input) (ap (λ v. (x ⊕ masks (s .masks .r1) ⊕ masks (s .masks .r2)) ∷ v ∷ [])
+              (answer-5-is case table x0 (k .r2) ∙ answering method-5 k));
         }

@@ -24,8 +24,9 @@ abbrev pub Alike-at : (table : List ℕ) → (method n m i j : ℕ) → Type 0
 Alike-at table method n m i j =
     (x y u v : ℕ) → x < 2 ^ n → y < 2 ^ n → count table method n m x i j u v ≡ count table method n m y i j u v
 
--- for every fit table, balanced ones among them (`Balanced-fit` of `table`), each method (2, 3 and 5: `Methods-known` of `lookup`), any two positions, the same one twice included, any
--- two values and any two inputs: as many choices of all masks put those values there for the one input as for the other
+-- for every fit table, balanced ones among them (`Balanced-fit` of `table`), each method (2, 3 and 5: `Methods-known` of `lookup`), any two
+-- positions, the same one twice included, any two values and any two inputs: as many choices of all masks put those values there for the one input as
+-- for the other
 unfoldable pub Tells-nothing : Type 0
 Tells-nothing =
     (table : List ℕ) (method n m x y i j u v : ℕ) → fit n m table ≡ true → known method ≡ true → x < 2 ^ n → y < 2 ^ n →

@@ -14,5 +14,6 @@ abbrev μ : tie.MeasureT-loop
 pub fill-first-spec : {M : Type 1} → statement M
 fill-first-spec =
     tie.close
-    (tie.spec Inv μ (λ c κs. search needs) (λ c. search needs) (λ c. search copying-begins) (λ c κs. (search first-index, search needs)) (λ c. search needs)
-    (λ c. search first-place) (λ c. search needs) (λ c. search needs) (λ c. search first-turns) (λ c. search needs) (λ c. search first-ends))
+    (tie.spec Inv μ (λ c κs. search needs) (λ c. search needs) (λ c. search copying-begins) (λ c κs. (search first-index, search needs))
+    (λ c. search needs) (λ c. search first-place) (λ c. search needs) (λ c. search needs) (λ c. search first-turns) (λ c. search needs)
+    (λ c. search first-ends))

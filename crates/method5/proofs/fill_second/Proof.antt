@@ -14,5 +14,6 @@ abbrev μ : tie.MeasureT-loop
 pub fill-second-spec : {M : Type 1} → statement M
 fill-second-spec =
     tie.close
-    (tie.spec Inv μ (λ c κs. search needs) (λ c. search needs) (λ c. search copying-begins) (λ c κs. (search second-index, search needs)) (λ c. search needs) (λ c. search needs) (λ c. search needs)
-    (λ c. search second-place) (λ c. search needs) (λ c. search needs) (λ c. search second-turns) (λ c. search needs) (λ c. search second-ends))
+    (tie.spec Inv μ (λ c κs. search needs) (λ c. search needs) (λ c. search copying-begins) (λ c κs. (search second-index, search needs))
+    (λ c. search needs) (λ c. search needs) (λ c. search needs) (λ c. search second-place) (λ c. search needs) (λ c. search needs)
+    (λ c. search second-turns) (λ c. search needs) (λ c. search second-ends))

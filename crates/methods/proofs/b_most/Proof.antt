@@ -9,4 +9,7 @@ use Rattle.methods.proofs.b_most.Statement.{statement}
 use Rattle.methods.proofs.b_most.Tie as tie
 
 pub b-most-spec : {M : Type 1} → statement M
-b-most-spec = tie.close (tie.spec (λ c. search (b-most-by method-2, method-2-of)) (λ c. search (b-most-by method-3, method-3-of)) (λ c. search (b-most-by method-5, method-5-of)) (λ c. search (b-most-by no-method, no-method-of)))
+b-most-spec =
+    tie.close
+    (tie.spec (λ c. search (b-most-by method-2, method-2-of)) (λ c. search (b-most-by method-3, method-3-of))
+    (λ c. search (b-most-by method-5, method-5-of)) (λ c. search (b-most-by no-method, no-method-of)))

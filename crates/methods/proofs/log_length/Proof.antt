@@ -12,5 +12,5 @@ pub log-length-spec : {M : Type 1} → statement M
 log-length-spec =
     tie.close
     (tie.spec (λ c κs. search needs) (λ c. search turns-fit) (λ c κs. search needs) (λ c. search (log-length-by method-2, method-2-of))
-    (λ c κs. search needs) (λ c. search (log-length-by method-3, method-3-of)) (λ c κs. search needs) (λ c. search (log-length-by method-5, method-5-of))
-    (λ c. search (no-log, no-method-of)))
+    (λ c κs. search needs) (λ c. search (log-length-by method-3, method-3-of)) (λ c κs. search needs)
+    (λ c. search (log-length-by method-5, method-5-of)) (λ c. search (no-log, no-method-of)))

@@ -12,4 +12,6 @@ use Rattle.methods.proofs.r3_most.Tie as tie
 pub r3-most-spec : {M : Type 1} → statement M
 r3-most-spec =
     tie.close
-    (tie.spec (λ c κs. search needs) (λ c. search (power-some, needs)) (λ c. search (r3-most-by method-2, method-2-of, power-less)) (λ c. search (power-some, needs)) (λ c. search (r3-most-by method-3, method-3-of, power-less)) (λ c. search (r3-most-by method-5, method-5-of)) (λ c. search (r3-most-by no-method, no-method-of)))
+    (tie.spec (λ c κs. search needs) (λ c. search (power-some, needs)) (λ c. search (r3-most-by method-2, method-2-of, power-less))
+    (λ c. search (power-some, needs)) (λ c. search (r3-most-by method-3, method-3-of, power-less))
+    (λ c. search (r3-most-by method-5, method-5-of)) (λ c. search (r3-most-by no-method, no-method-of)))

@@ -13,5 +13,5 @@ pub scratch-length-spec : {M : Type 1} → statement M
 scratch-length-spec =
     tie.close
     (tie.spec (λ c κs. search needs) (λ c. search turns-fit) (λ c. search (scratch-length-by method-2, method-2-of))
-    (λ c. search (scratch-length-by method-3, method-3-of)) (λ c. search times-fit) (λ c. search (scratch-length-by method-5, method-5-of, power-times))
-    (λ c. search (scratch-length-by no-method, no-method-of)))
+    (λ c. search (scratch-length-by method-3, method-3-of)) (λ c. search times-fit)
+    (λ c. search (scratch-length-by method-5, method-5-of, power-times)) (λ c. search (scratch-length-by no-method, no-method-of)))

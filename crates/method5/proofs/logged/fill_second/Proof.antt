@@ -19,7 +19,8 @@ abbrev μ : tie.MeasureT-loop
 pub fill-second-spec : {M : Type 1} → statement M
 fill-second-spec =
     tie.close
-    (tie.spec Inv μ (λ c κs. search needs) (λ c. search needs) (λ c. (search copying-begins, search logging-begins)) (λ c κs. (search needs, (search second-half-long, search needs)))
-    (λ c. search needs) (λ c. search needs) (λ c. search needs) (λ c. search needs) (λ c. search second-place) (λ c κs. search second-room) (λ c. search needs) (λ c. search needs)
+    (tie.spec Inv μ (λ c κs. search needs) (λ c. search needs) (λ c. (search copying-begins, search logging-begins))
+    (λ c κs. (search needs, (search second-half-long, search needs))) (λ c. search needs) (λ c. search needs) (λ c. search needs)
+    (λ c. search needs) (λ c. search second-place) (λ c κs. search second-room) (λ c. search needs) (λ c. search needs)
     (λ c. (search (second-turns, second-copied), search (second-logged, second-shown))) (λ c. search needs) (λ c. search needs)
     (λ c. (search second-ends, search rows-ends)))

@@ -7,4 +7,6 @@ use Rattle.method5.proofs.logged.run.Tie as tie
 
 pub run-spec : {M : Type 1} → statement M
 run-spec =
-    tie.close (tie.spec (λ c κs. search needs) (λ c κs. search needs) (λ c κs. search needs) (λ c. search needs) (λ c. search needs) (λ c. (search read-answers, (search needs, search turned-whole))))
+    tie.close
+    (tie.spec (λ c κs. search needs) (λ c κs. search needs) (λ c κs. search needs) (λ c. search needs) (λ c. search needs)
+    (λ c. (search read-answers, (search needs, search turned-whole))))
