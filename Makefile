@@ -1,18 +1,19 @@
 # `make` proves everything and builds what a user links or runs; `make test` is the gate; `make help` says what else there is.
-.PHONY: all lib bench counts demo sbox audit speed test install uninstall clean help
+.PHONY: all lib bench counts convert demo sbox audit speed test install uninstall clean help
 
-# the sheets that `make bench` and `make counts` answer
+# the sheets that `make bench`, `make counts` and `make convert` answer
 SHEET = examples/p1.sheet
 COUNTS = examples/p12.counts
+OLD = examples/old/p1.sheet
 # where things are installed; DESTDIR stands before it, for packages that are put together elsewhere
 PREFIX = /usr/local
 DESTDIR =
 
 archive = target/staticlib/libcippazhey.a
-programs = target/bin/bench target/bin/counts
+programs = $(addprefix target/bin/,bench counts to_six_columns to_four_columns)
 prefix = $(abspath $(PREFIX))
 installed = $(addprefix $(DESTDIR)$(prefix)/,lib/libcippazhey.a include/cippazhey.h lib/pkgconfig/cippazhey.pc \
-	bin/cippazhey-bench bin/cippazhey-counts)
+	$(addprefix bin/cippazhey-,bench counts to-six-columns to-four-columns))
 part_of_version = $(shell sed -n 's/^\#define CIPPAZHEY_VERSION_$(1) //p' include/cippazhey.h)
 version = $(call part_of_version,MAJOR).$(call part_of_version,MINOR).$(call part_of_version,PATCH)
 # what is shown of long work counts from here
@@ -45,6 +46,9 @@ bench: ## the log of a case sheet (SHEET=..), printed by the proved program
 
 counts: ## the counts of a probe sheet (COUNTS=..), printed by the proved program
 	$(call print,counts,$(COUNTS))
+
+convert: ## a case sheet of four columns (OLD=..) in six, printed by the proved program
+	$(call print,to_six_columns,$(OLD))
 
 demo: ## masked lookups, a whole frame and a choice of one half from C, on the proved archive
 	@.ci/tools x86-64 rt cc
@@ -87,6 +91,8 @@ install: ## what `make` has built, into PREFIX (/usr/local), with DESTDIR before
 	chmod 644 $(word 3,$(installed))
 	install -m 755 $(word 1,$(programs)) $(word 4,$(installed))
 	install -m 755 $(word 2,$(programs)) $(word 5,$(installed))
+	install -m 755 $(word 3,$(programs)) $(word 6,$(installed))
+	install -m 755 $(word 4,$(programs)) $(word 7,$(installed))
 
 uninstall: ## removes what `make install` puts there; takes the same PREFIX and DESTDIR
 	$(folder_is_fit)

@@ -1,6 +1,6 @@
-# Runs a linked program that answers sheets, bench or counts, and compares what it prints and its exit status with the model: from files,
-# through a pipe in pieces that it must read one by one, on input longer than it can hold, on random and mutated input, and at a terminal,
-# where alone it says what it waits for, on standard error, before anything is typed.
+# Runs a linked program that answers sheets, bench, counts or a converter, and compares what it prints and its exit status with the model:
+# from files, through a pipe in pieces that it must read one by one, on input longer than it can hold, on random and mutated input, and at a
+# terminal, where alone it says what it waits for, on standard error, before anything is typed.
 # Run: python3 tests/host/print_test.py PROGRAM, or with --control behind it for wrong programs, each of which a way must notice.
 # The status is 0, or 1 where something differs, is missing or goes unnoticed.
 import contextlib
@@ -16,26 +16,30 @@ import subprocess
 import sys
 import tempfile
 import termios
-from collections.abc import Callable
+from collections.abc import Callable, Iterable
 from pathlib import Path
-from types import ModuleType
 from typing import NamedTuple
 
 sys.path.insert(0, str(Path(__file__).resolve().parents[1] / "model"))
+import conversion
+import conversion_sheets
 import count_sheets
 import counts
 import model
 import sheets
+from editions import NEW, OLD
 
 
-# What is asked of a program: its answer to a text; the module of its sheets, whose first two are legal, and how many these are; the example
-# that is its sample; how many mutated sheets are tried; what it waits for. And what its wrong programs change: a refusal, into which other; the last line of its longest
-# print; how long the longest legal sheet is.
+# What is asked of a program: its answer to a text; its sample, and the example that must be this; its sheets, the first two of which are
+# legal, and how many these are; a mutated one, and how many are tried; what it waits for. And what its wrong programs change: a refusal,
+# into which other; the last line of its longest print; how long the longest legal sheet is.
 class Program(NamedTuple):
     answer: Callable[[bytes], bytes]
-    sheets: ModuleType
-    sheet_count: int
+    sample: bytes
     example: str
+    sheets: Callable[[], Iterable[bytes]]
+    sheet_count: int
+    mutated: Callable[[random.Random], bytes]
     mutated_count: int
     waits_for: str
     refusal: tuple[int, int]
@@ -43,10 +47,25 @@ class Program(NamedTuple):
     longest: int
 
 
-# counting takes the model long, and the same sheets come again
+# What both converters are asked alike.
+def converter(answer, sample, example, edition, refusal, longest):
+    every = functools.partial(conversion_sheets.all_sheets, edition)
+    waits_for = {OLD: "case sheet of four columns", NEW: "case sheet of six columns"}[edition]
+    return Program(answer, sample, example, every, 1222, conversion_sheets.mutated, 20000, waits_for, refusal, 257, longest)
+
+
 PROGRAMS = {
-    "bench": Program(model.bench, sheets, 367, "p1.sheet", 20000, "case sheet", (12, 11), 2313, 1321),
-    "counts": Program(functools.cache(counts.counts), count_sheets, 376, "p12.counts", 2000, "probe sheet", (16, 15), 8, 1305),
+    "bench": Program(
+        *(model.bench, sheets.SAMPLE, "p1.sheet", sheets.all_sheets, 577, sheets.mutated, 20000),
+        *("case sheet", (12, 11), 2313, 1853),
+    ),
+    # counting takes the model long, and the same sheets come again
+    "counts": Program(
+        *(functools.cache(counts.counts), count_sheets.SAMPLE, "p12.counts", count_sheets.all_sheets, 524, count_sheets.mutated, 2000),
+        *("probe sheet", (16, 15), 8, 1829),
+    ),
+    "to_six_columns": converter(conversion.to_six_columns, sheets.OLD_SAMPLE, "old/p1.sheet", OLD, (1, 2), 1321),
+    "to_four_columns": converter(conversion.to_four_columns, sheets.SAMPLE, "p1.sheet", NEW, (22, 1), 1853),
 }
 EXAMPLES = Path(__file__).resolve().parents[2] / "examples"
 LONGEST_RUN = 20  # seconds
@@ -127,19 +146,19 @@ def at_terminal(command, texts):
 def mutated_texts(program):
     chance = random.Random(7)
     for _ in range(program.mutated_count):
-        yield program.sheets.mutated(chance)
+        yield program.mutated(chance)
 
 
 # What a terminal hands on as it was typed, a line at a time, until Ctrl-D.
 def typed_texts(program):
-    return b"", b"waiting\n", *itertools.islice(program.sheets.all_sheets(), 2)
+    return b"", b"waiting\n", *itertools.islice(program.sheets(), 2)
 
 
 # The ways to run a program: how, on what, and how many inputs that are.
 WAYS = {
-    "files": (from_files, lambda program: program.sheets.all_sheets(), lambda program: program.sheet_count),
-    "pieces": (in_pieces, lambda program: program.sheets.all_sheets(), lambda program: program.sheet_count),
-    "long": (from_files, lambda program: [program.sheets.SAMPLE * 200], lambda program: 1),
+    "files": (from_files, lambda program: program.sheets(), lambda program: program.sheet_count),
+    "pieces": (in_pieces, lambda program: program.sheets(), lambda program: program.sheet_count),
+    "long": (from_files, lambda program: [program.sample * 200], lambda program: 1),
     "mutated": (from_files, mutated_texts, lambda program: program.mutated_count),
     "terminal": (at_terminal, typed_texts, lambda program: 4),
 }
@@ -162,9 +181,18 @@ def compare(program, way, command, limit=None):
     return compared, differing
 
 
-def test(program, file):
-    if (EXAMPLES / program.example).read_bytes() != program.sheets.SAMPLE:
+# The example that is the sample, and those beside it, none of which may be refused: one number alone is a refusal.
+def wrong_examples(program):
+    example = EXAMPLES / program.example
+    if example.read_bytes() != program.sample:
         yield f"examples/{program.example} is not the sample"
+    for path in example.parent.glob(f"*{example.suffix}"):
+        if len(program.answer(path.read_bytes()).split()) == 1:
+            yield f"{path.name} is refused"
+
+
+def test(program, file):
+    yield from wrong_examples(program)
     for way, (_, _, count) in WAYS.items():
         compared, differing = compare(program, way, [file])
         print(f"{way}: {compared} inputs, {len(differing)} differ")
@@ -181,12 +209,14 @@ def wrong(program):
     hand_on = "printf %s \"${text%.}\""
     refusal, other = program.refusal
     return [
-        ("a refusal's number", "files", every, f'"$0" | sed "s/^{refusal:4}$/{other:4}/"'),
+        ("a refusal's number", "files", every, f'"$0" | sed "s/^{refusal:6}$/{other:6}/"'),
+        ("a refusal in four columns", "files", every, f'"$0" | sed "s/^{refusal:6}$/{refusal:4}/"'),
+        ("the last line left out", "files", 20, """"$0" | sed '$d'"""),
         ("no last line feed", "files", 20, '"$0" | head -c -1'),
         ("a line of the longest print", "files", every, f'"$0" | sed "{program.last_line}s/.$/x/"'),
         ("a sheet that goes on behind its end", "files", every, f'head -c {program.longest} | "$0"'),
         ("only the first read", "pieces", 20, 'dd bs=4096 count=1 2>/dev/null | "$0"'),
-        ("only the front of long input", "long", 1, f'head -c {len(program.sheets.SAMPLE)} | "$0"'),
+        ("only the front of long input", "long", 1, f'head -c {len(program.sample)} | "$0"'),
         ("bytes from 128 on as spaces", "mutated", 400, r"""tr '\200-\377' ' ' | "$0" """),
         # those that are silent take LONGEST_SILENCE for each input
         ("silence at a terminal", "terminal", 1, 'cat | "$0"'),
@@ -220,4 +250,5 @@ def main():
     sys.exit(1 if found else 0)
 
 
-main()
+if __name__ == "__main__":
+    main()

@@ -5,6 +5,7 @@ import sys
 import check_calls
 import check_chain
 import check_chain_leaks
+import check_conversion
 import check_counts
 import check_frame
 import check_leaks
@@ -19,7 +20,9 @@ import check_tables
 # For each module, what holds it to them. The quick parts come first: a wrong model is then noticed sooner.
 PARTS = {
     "methods": (check_methods,),
+    "editions": (check_print, check_conversion),
     "model": (check_small, check_print, check_calls, check_tables, check_methods, check_leaks),
+    "conversion": (check_conversion,),
     "counts": (check_counts,),
     "chain": (check_chain, check_chain_leaks),
     "sbox": (check_sbox,),
@@ -31,12 +34,13 @@ PARTS = {
 # How many comparisons each makes: a group that is left out, or that compares nothing, is missed here alone.
 COMPARISONS = {
     check_small: 1253,
-    check_print: 35,
+    check_print: 716,
+    check_conversion: 2008,
     check_calls: 35113,
     check_tables: 1340,
     check_methods: 169939,
     check_leaks: 357,
-    check_counts: 17969,
+    check_counts: 18158,
     check_chain: 66166,
     check_chain_leaks: 91,
     check_sbox: 7,

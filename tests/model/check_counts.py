@@ -3,9 +3,9 @@
 import counts
 import model
 from check_methods import TOP, choice_count, lent_log, log_length, scratch_length
-from count_sheets import P12_PAIR, SAMPLE, probe_sheet
+from count_sheets import P12_PAIR, PAIR, SAMPLE, probe_sheet
 from counts import ProbePair
-from document import KINDS, TABLE_A
+from document import KINDS, SAMPLE_INPUT, TABLE_A
 
 # Fit tables of every pair of widths, balanced where m is at most n.
 TABLES = {
@@ -188,7 +188,7 @@ def accepted():
 
 # The print's form: a line of 2^k counts for each u, a refusal, or 1.
 def prints():
-    yield "P12 as input", SAMPLE, b"   2   1   1   0   0  21\n   1\n   0\n"
+    yield "P12 as input", SAMPLE, b"     2     1     1     0     0    21\n     1\n     0\n"
     yield "P12 printed", counts.counts(SAMPLE), b"       8       8\n       8       8\n"
     rows = [b"      16" * 4] * 2 + [b"       0" * 4] * 2
     yield "0, 3 printed", counts.counts(probe_sheet(ProbePair(2, 1, 2, 1, 1, 3), [0, 3])).split(b"\n"), [*rows, b""]
@@ -199,23 +199,45 @@ def prints():
         lines = [b"".join(b"%8d" % count for count in sheet[at : at + values]) for at in range(0, values * values, values)]
         yield f"{pair} printed", counts.counts(probe_sheet(pair, table)).split(b"\n"), [*lines, b""]
     yield "a wide count", counts.counts(probe_sheet(pair, table))[-9:], b"   65536\n"
-    yield "nothing", counts.counts(b""), b"   1\n"
-    yield "a case of ten numbers", counts.counts(b"   2   1   1   0   1   0   0   1   1   0\n   1\n   0\n"), b"   1\n"
-    yield "five numbers", counts.counts(b"   2   1   1   0   0\n   1\n   0\n"), b"   1\n"
-    yield "no table", counts.counts(probe_sheet(P12_PAIR, [])), b"   5\n"
+    yield "nothing", counts.counts(b""), b"     1\n"
+    yield "a case of ten numbers", counts.counts(SAMPLE_INPUT), b"     1\n"
+    yield "P12 in four columns", counts.counts(b"   2   1   1   0   0  21\n   1\n   0\n"), b"     1\n"
+    yield "five numbers", counts.counts(b"     2     1     1     0     0\n     1\n     0\n"), b"     1\n"
+    yield "no table", counts.counts(probe_sheet(P12_PAIR, [])), b"     5\n"
     yield "P12 by 5 printed", counts.counts(probe_sheet(ProbePair(5, 1, 1, 0, 0, 22), [1, 0])), b"       4       4\n       4       4\n"
-    yield "a position by 5", counts.counts(probe_sheet(ProbePair(5, 1, 1, 0, 0, 23), [1, 0])), b"  16\n"
+    yield "a position by 5", counts.counts(probe_sheet(ProbePair(5, 1, 1, 0, 0, 23), [1, 0])), b"    16\n"
     for method in (4, 6):
-        yield f"method {method}", counts.counts(probe_sheet(P12_PAIR._replace(method=method), [])), b"   2\n"
+        yield f"method {method}", counts.counts(probe_sheet(P12_PAIR._replace(method=method), [])), b"     2\n"
     for method, first, second in ((2, 13, 33), (5, 24, 38)):
         refused_pair = ProbePair(method, 2, 1, 0, first, second)
-        yield f"the refused table, method {method}", counts.counts(probe_sheet(refused_pair, [0, 0, 0, 1])), b"   7\n"
-    yield "a position", counts.counts(probe_sheet(P12_PAIR._replace(second=22), [1, 0])), b"  16\n"
+        yield f"the refused table, method {method}", counts.counts(probe_sheet(refused_pair, [0, 0, 0, 1])), b"     7\n"
+    yield "a position", counts.counts(probe_sheet(P12_PAIR._replace(second=22), [1, 0])), b"    16\n"
     for method in KINDS:
         for n in range(4, 9):
-            yield f"method {method} at n = {n}", counts.counts(probe_sheet(ProbePair(method, n, n, 0, 0, 0), range(2**n))), b"  15\n"
-            yield f"method {method} at m = {n}", counts.counts(probe_sheet(ProbePair(method, 1, n, 0, 0, 0), [0, 3])), b"  15\n"
+            yield f"method {method} at n = {n}", counts.counts(probe_sheet(ProbePair(method, n, n, 0, 0, 0), range(2**n))), b"    15\n"
+            yield f"method {method} at m = {n}", counts.counts(probe_sheet(ProbePair(method, 1, n, 0, 0, 0), [0, 3])), b"    15\n"
+
+
+# A number above 255 in each field, in each place of a table, and beside what is refused before it.
+def wide_numbers():
+    printed = lambda table, **changed: counts.counts(probe_sheet(PAIR._replace(**changed), table))
+    for name, refusal in {"method": 2, "n": 3, "m": 4, "secret": 10, "first": 16, "second": 16}.items():
+        for value in (255, 256, 257, 258, 300, 65535, 256 + getattr(PAIR, name), 65280 + getattr(PAIR, name)):
+            yield f"{name} = {value}", printed(TABLE_A, **{name: value}), b"%6d\n" % refusal
+    for secret, refusal in ((255, 15), (256, 10), (65535, 10)):
+        yield f"secret {secret} at n = 8", printed(range(256), n=8, m=8, secret=secret), b"%6d\n" % refusal
+    for position in (300, 2313, 65535):
+        yield f"position {position} at n = 8", printed(range(256), n=8, m=8, second=position), b"    15\n"
+    for entry in (256, 257, 258, 300, 65535):
+        for m in range(1, 9):
+            for table in ([entry, 0, 0, 0], [0, 0, 0, entry], [entry] * 4):
+                yield f"{table} at m = {m}", printed(table, m=m), b"     6\n"
+        yield f"0 and {entry}", printed([0, entry], n=1, m=8, secret=0), b"     6\n"
+    for name, value, refusal in (("method", 4, 2), ("n", 9, 3), ("n", 3, 5), ("m", 9, 4), ("secret", 4, 6), ("first", 46, 6)):
+        yield f"an entry of 300 beside {name} = {value}", printed([2, 300, 3, 1], **{name: value}), b"%6d\n" % refusal
+    for table in ([300], [2, 0, 3, 1, 300], [300] * 256):
+        yield f"300 among {len(table)} entries", printed(table), b"     5\n"
 
 
 # The quick ones come first.
-GROUPS = (figures, figures_by_5, prints, refusals, accepted, single_counts, sums, equal_sheets)
+GROUPS = (figures, figures_by_5, prints, wide_numbers, refusals, accepted, single_counts, sums, equal_sheets)

@@ -1,5 +1,7 @@
 # The edits of tests/model/counts.py that tests/model/mutants.py tries: for each function a piece of its text, and what takes its place.
 # None exchanges the secret: of a fit table every secret has the same sheet.
+from print_mutants import narrowed, refused_early
+
 COUNTS = {
     "value_width": [
         ("max", "min"),
@@ -110,7 +112,12 @@ COUNTS = {
     ],
     "counts": [
         ("ProbePair)", "model.Case)"),
+        ("editions.NEW", "editions.OLD"),
+        *refused_early("pair, table = read"),
+        *narrowed("count_sheet", "pair", "ProbePair"),
         ("print_line(1)", "print_line(2)"),
+        ("print_line(1)", "print_line(1, columns=4)"),
+        ("print_line(refusal)", "print_line(refusal, columns=4)"),
         ("print_line(refusal)", "print_line(refusal, columns=8)"),
         ("print_line(refusal)", "print_line(refusal, 0)"),
         ("[0] * scratch_length(5, 8)", "[0] * 256"),

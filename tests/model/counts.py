@@ -3,6 +3,7 @@
 import functools
 from collections import Counter, namedtuple
 
+import editions
 import model
 from model import log_length, scratch_length
 
@@ -63,12 +64,12 @@ def count_sheet(pair, table, scratch, log, sheet):
 
 # What the program `counts` writes for an input: a line for each u, the refusal, or 1 where the input has another form.
 def counts(text):
-    read = model.read_sheet(text, ProbePair)
+    read = editions.read_sheet(editions.NEW, text, ProbePair)
     if read is None:
-        return model.print_line(1)
+        return editions.print_line(1)
     pair, table = read
     refusal, _, _, sheet = count_sheet(pair, table, [0] * scratch_length(5, 8), [0] * log_length(3, 8), [0] * 64)
     if refusal:
-        return model.print_line(refusal)
+        return editions.print_line(refusal)
     size = 2 ** value_width(pair)
-    return b"".join(model.print_line(*sheet[u * size : (u + 1) * size], columns=8) for u in range(size))
+    return b"".join(editions.print_line(*sheet[u * size : (u + 1) * size], columns=8) for u in range(size))

@@ -1,12 +1,12 @@
 # The figures that the requirements give, as they print them. Nothing here is computed, and nothing is taken from the code.
 
-# The program's sample, whole.
-SAMPLE_INPUT = b"""\
+# The program's sample, whole, in the old edition's four columns.
+OLD_SAMPLE_INPUT = b"""\
    2   1   1   0   1   0   0   1   1   0
    1
    0
 """
-SAMPLE_OUTPUT = b"""\
+OLD_SAMPLE_OUTPUT = b"""\
    0  10   0
    1   1   1
    2   2   0
@@ -30,6 +30,37 @@ SAMPLE_OUTPUT = b"""\
   20   5   1
   21  15   1
    0   1  22
+"""
+# The same with each number in the six columns that took their place.
+SAMPLE_INPUT = b"""\
+     2     1     1     0     1     0     0     1     1     0
+     1
+     0
+"""
+SAMPLE_OUTPUT = b"""\
+     0    10     0
+     1     1     1
+     2     2     0
+     3     3     0
+     4     4     1
+     5     5     1
+     6     6     0
+     7     7     0
+     8     8     0
+     9     9     0
+    10    11     0
+    11    12     1
+    12    13     1
+    13    14     0
+    14     8     1
+    15     9     1
+    16    11     1
+    17    12     0
+    18    13     0
+    19    14     1
+    20     5     1
+    21    15     1
+     0     1    22
 """
 TABLE_A = [2, 0, 3, 1]
 

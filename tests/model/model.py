@@ -1,12 +1,12 @@
 # The calls, the logs, the counts and the bench print in plain Python, written from the requirements alone, without looking at the code.
-# What a call does once it is accepted is in methods.py.
+# What a call does once it is accepted is in methods.py, the form of a sheet in editions.py.
 # docs/REFERENCE.md says the same in words.
 # It shares nothing with the proved code, so that a test which compares the two can find a fault in either.
 # Numbers are integers from 0 on; a table, a scratch buffer and rows are lists of bytes; a log is a list of 32-bit entries.
 import itertools
-import re
 from collections import Counter, namedtuple
 
+import editions
 import methods
 
 # The numbers of a logged or plain call, in the order of the bench print's case line.
@@ -240,46 +240,14 @@ def pair_counts(table, method, n, m, secret, i, j):
     return Counter(zip(shown[i], shown[j]))
 
 
-# The bench print.
-
-NUMBER = re.compile(rb" *(0|[1-9][0-9]*)")
-
-
-# The numbers that fill a line, each in 4 columns, or None where the line is of another form.
-def line_numbers(line, count):
-    if len(line) != 4 * count:
-        return None
-    fields = [NUMBER.fullmatch(line[at : at + 4]) for at in range(0, len(line), 4)]
-    if not all(fields):
-        return None
-    numbers = [int(field.group(1)) for field in fields]
-    return numbers if max(numbers) <= 255 else None
-
-
-# The numbers of an input's first line, named as the given type names them, and its table; None where the input has another form.
-def read_sheet(text, form):
-    first, *others = text.split(b"\n")
-    if not others or others.pop() != b"" or len(others) > 256:
-        return None
-    numbers = line_numbers(first, len(form._fields))
-    entries = [line_numbers(line, 1) for line in others]
-    if numbers is None or None in entries:
-        return None
-    return form(*numbers), [entry for [entry] in entries]
-
-
-def print_line(*numbers, columns=4):
-    return b"".join(b"%*d" % (columns, number) for number in numbers) + b"\n"
-
-
-# What the program writes for an input.
+# The bench print: what the program writes for an input. A table entry above 255 is no byte, and too large for every m.
 def bench(text):
-    sheet = read_sheet(text, Case)
+    sheet = editions.read_sheet(editions.NEW, text, Case)
     if sheet is None:
-        return print_line(1)
+        return editions.print_line(1)
     case, table = sheet
     refusal, share, count, _, log = logged_call(case, table, [0] * scratch_length(5, 8), [0] * log_length(3, 8))
     if refusal:
-        return print_line(refusal)
-    lines = [print_line(at, kind_of(log[at]), value_of(log[at])) for at in range(count)]
-    return b"".join(lines) + print_line(0, share, count)
+        return editions.print_line(refusal)
+    lines = [editions.print_line(at, kind_of(log[at]), value_of(log[at])) for at in range(count)]
+    return b"".join(lines) + editions.print_line(0, share, count)

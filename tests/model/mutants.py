@@ -10,7 +10,11 @@ import check
 import check_leaks
 import check_methods
 import check_selection
+import conversion
+import conversion_sheets
+import count_sheets
 import counts
+import editions
 import frame
 import logged_cases
 import methods
@@ -19,13 +23,14 @@ import sbox
 import screening
 import selection
 import selection_cases
+import sheets
 from chain_mutants import CHAIN
 from count_mutants import COUNTS
 from edits import edited
 from frame_mutants import FRAME
 from method_mutants import BY_METHOD, LEAKING, METHODS
 from model_mutants import MODEL
-from print_mutants import PRINT
+from print_mutants import CONVERSION, EDITIONS, PRINT
 from screening_mutants import SCREENING
 from selection_mutants import ALONE, SELECTION
 from small_mutants import SMALL
@@ -39,19 +44,24 @@ SBOX = {
     "printed": [("%02x", "%2x"), ("%02x", "%02X"), ('" ".join(row)', '"".join(row)')],
 }
 
-# A program's cases, and the functions that its answers go through: each wrong edit of these changes an answer, so no case can go unseen
-# that alone notices one.
+# Functions that the answers of a test program go through.
+CALLED = ("METHODS", "scratch_length", "log_length", "drawn", "is_fit", "table_refusal", "mask_refusal", "scratch_refusal", "logged_call")
+SELECTING = ("LOG_LENGTH", "ROWS", "OTHER_ROWS", "plain_refusal", "logged_refusal", "half", "run", "select", "plain_select")
+METHOD_RUNS = ("recomputed", "run_method_2", "run_method_3", "run_method_5")
+
+# For each module such functions, the program's cases, and what answers one: each wrong edit of the functions changes an answer, so no case
+# can go unseen that alone notices one.
 CASES = {
-    "methods": (logged_cases, ("recomputed", "run_method_2", "run_method_3", "run_method_5")),
-    "model": (
-        logged_cases,
-        ("METHODS", "scratch_length", "log_length", "drawn", "is_fit", "table_refusal", "mask_refusal", "scratch_refusal", "logged_call"),
-    ),
-    "chain": (chain_cases, ("following", "chain_refusal", "chained_call")),
-    "selection": (
-        selection_cases,
-        ("LOG_LENGTH", "ROWS", "OTHER_ROWS", "plain_refusal", "logged_refusal", "half", "run", "select", "plain_select"),
-    ),
+    "methods": [(METHOD_RUNS, logged_cases.cases, logged_cases.answer)],
+    "editions": [(tuple(EDITIONS), conversion_sheets.cases, conversion_sheets.answer)],
+    "model": [
+        (CALLED, logged_cases.cases, logged_cases.answer),
+        (("bench",), sheets.all_sheets, lambda text: model.bench(text)),
+    ],
+    "conversion": [(tuple(CONVERSION), conversion_sheets.cases, conversion_sheets.answer)],
+    "counts": [(("counts",), count_sheets.all_sheets, lambda text: counts.counts(text))],
+    "chain": [(("following", "chain_refusal", "chained_call"), chain_cases.cases, chain_cases.answer)],
+    "selection": [(SELECTING, selection_cases.cases, selection_cases.answer)],
 }
 
 
@@ -77,22 +87,28 @@ def noticed(module, name, text, differences):
         setattr(module, name, right)
 
 
+# What searches a program's cases for an answer that is another than now.
+def search(cases, answer):
+    answers = [(case, answer(case)) for case in cases()]
+    return lambda: (case for case, wanted in answers if answer(case) != wanted)
+
+
 # What is wrong with the control of a module: it must pass as it is, and each of its functions must have edits, which are noticed.
 def complaints(module, edits):
     texts = dict(definitions(module, edits))
     differences = lambda: check.differences(module.__name__)
     if any(True for _ in differences()):
         yield "the module itself differs"
-    cases, answering = CASES.get(module.__name__, (None, ()))
-    answers = [(case, cases.answer(case)) for case in cases.cases()] if cases else []
-    changed = lambda: (case for case, answer in answers if cases.answer(case) != answer)
+    changed = {}
+    for names, cases, answer in CASES.get(module.__name__, []):
+        changed |= dict.fromkeys(names, search(cases, answer))
     yield from (f"{name} has no edits" for name in texts if not edits.get(name))
     for name, pieces in edits.items():
         for old, new in pieces:
             wrong = edited(texts[name], old, new)
             if not noticed(module, name, wrong, differences):
                 yield f"{name}: {old!r} became {new!r}, and no check differs"
-            if name in answering and not noticed(module, name, wrong, changed):
+            if name in changed and not noticed(module, name, wrong, changed[name]):
                 yield f"{name}: {old!r} became {new!r}, and no case's answer differs"
 
 
@@ -117,7 +133,9 @@ def blind_groups():
 def main():
     modules = (
         (methods, METHODS),
+        (editions, EDITIONS),
         (model, SMALL | BY_METHOD | MODEL | PRINT),
+        (conversion, CONVERSION),
         (counts, COUNTS),
         (chain, CHAIN),
         (sbox, SBOX),

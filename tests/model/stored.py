@@ -6,6 +6,8 @@ import tempfile
 from pathlib import Path
 
 import chain_cases
+import conversion
+import conversion_sheets
 import count_cases
 import count_sheets
 import counts
@@ -35,6 +37,10 @@ def print_files(name, texts, printed):
     return {f"{name}/data/cases": b"".join(records), f"{name}/stdout": b"".join(map(printed, texts))}
 
 
+def sample_files(name, text, printed):
+    return {f"{name}/stdin": text, f"{name}/stdout": printed(text)}
+
+
 # What each file below crates/ must hold.
 def made_files():
     return {
@@ -47,10 +53,11 @@ def made_files():
         **program_files("test_count_sheets", count_cases),
         **print_files("test_case_sheets", [*sheets.all_sheets(), *sheets.small_tables()], model.bench),
         **print_files("test_count_prints", list(count_sheets.all_sheets()), counts.counts),
-        "bench/stdin": document.SAMPLE_INPUT,
-        "bench/stdout": model.bench(document.SAMPLE_INPUT),
-        "counts/stdin": count_sheets.SAMPLE,
-        "counts/stdout": counts.counts(count_sheets.SAMPLE),
+        **print_files("test_conversions", list(conversion_sheets.cases()), conversion_sheets.answer),
+        **sample_files("bench", document.SAMPLE_INPUT, model.bench),
+        **sample_files("counts", count_sheets.SAMPLE, counts.counts),
+        **sample_files("to_six_columns", document.OLD_SAMPLE_INPUT, conversion.to_six_columns),
+        **sample_files("to_four_columns", document.SAMPLE_INPUT, conversion.to_four_columns),
         "sbox_print/stdout": sbox.printed(),
     }
 

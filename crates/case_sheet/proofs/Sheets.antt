@@ -3,18 +3,23 @@ use mathlib.Core.Path.{_≡_, refl, sym, ap, ap₂, _∙_}
 use mathlib.Core.Bool.{Bool, true, false, _&&_, not, and-eq-true-iff}
 use mathlib.Core.List.{List, [], append-nil}
 use Prim.Native.Nat.{ℕ, zero, suc, _+_, _*_, _-_, _≤_, _<_}
+use native.Mathlib.Nat.{mul-le-mul}
 use native.Mathlib.Omega.{arith}
-use borrow.Author.Tests.{eqb-true, not-true, not-false}
+use borrow.Author.Tests.{eq-eqb, ne-eqb, eqb-true, not-true, not-false}
+use mir.Syntax.{w64}
+use mir.Val.{Fits}
 use lib.Dec.{eqb}
 use lib.ListN.{length, getD, take, drop, replicate, length-drop, length-take, drop-of-length-le, List·getD-eq-default}
 use lib.Seq.{take-all, take-at}
 use Rattle.buffers.specs.Written.{in-front}
 use Rattle.field.specs.declared.Field.{Field}
 use Rattle.field.specs.declared.Field.the-variants.{Number, Malformed}
+use Rattle.case_sheet.specs.declared.Edition.{Edition}
 use Rattle.case_sheet.specs.declared.Lines.{Lines}
 use Rattle.case_sheet.specs.declared.Sheet.{Sheet}
-use Rattle.case_sheet.specs.Sheet.{columns, item, before, leading, numbers-of, table-of, complete, well-formed, other-form, lines-of}
-use Rattle.case_sheet.specs.Sheet.{case-read, accepted, refused, sheet-of}
+use Rattle.case_sheet.specs.Sheet.{item, before, leading, numbers-of, table-of, complete, well-formed, other-form, lines-of}
+use Rattle.case_sheet.specs.Edition.{six-columns}
+use Rattle.case_sheet.specs.Sheet.{accepted, refused, sheet-of}
 
 before-most : (found : Field) (values : List ℕ) (k : ℕ) → length values ≤ k → length (before found values) ≤ suc k
 unfolding before
@@ -22,142 +27,193 @@ before-most (Number v) values k h = omega arith
 before-most Malformed values k h = omega arith
 
 -- no more numbers are found than there is room for
-leading-most : (line : Bool) (at-most : ℕ) (bytes : List ℕ) → length (leading line at-most bytes) ≤ at-most
+pub leading-most : (edition : Edition) (line : Bool) (at-most : ℕ) (bytes : List ℕ) → length (leading edition line at-most bytes) ≤ at-most
 unfolding leading
-leading-most line zero bytes = omega arith
-leading-most line (suc k) bytes = before-most (item line bytes) _ k (leading-most line k _)
+leading-most edition line zero bytes = omega arith
+leading-most edition line (suc k) bytes = before-most (item edition line bytes) _ k (leading-most edition line k _)
 
-no-lines : leading true 256 [] ≡ []
+no-lines : (edition : Edition) → leading edition true 256 [] ≡ []
 unfolding leading before item
-no-lines = refl
+no-lines edition = refl
 
-module _ (fields : ℕ) (input : List ℕ) where
+module _ (edition : Edition) (fields : ℕ) (input : List ℕ) where
+  -- few columns and fields: the case line's length fits
+  pub case-fits : edition .columns ≤ 256 → fields ≤ 256 → Fits w64 (edition .columns * fields)
+  case-fits c f = record { fits = omega (arith, mul-le-mul c f) }
+
+  pub start-fits : edition .columns ≤ 256 → fields ≤ 256 → Fits w64 (edition .columns * fields + 1)
+  start-fits c f = record { fits = omega (arith, mul-le-mul c f) }
+
   -- INPUT WITHOUT A CASE LINE
-  short-other : length input < columns * fields + 1 → well-formed fields input ≡ false
+  pub short-other : length input < edition .columns * fields + 1 → well-formed edition fields input ≡ false
   unfolding well-formed complete
   short-other h =
-      rw (List·getD-eq-default input 0 {n = columns * fields} (omega arith))
-      (short-other-by-cases (eqb (length (numbers-of fields input)) fields))
+      rw (List·getD-eq-default input 0 {n = edition .columns * fields} (omega arith))
+      (short-other-by-cases (eqb (length (numbers-of edition fields input)) fields))
     where
       short-other-by-cases : (t : Bool)
-          → (t && false && eqb (columns * fields + 1 + (columns + 1) * length (table-of fields input)) (length input)) ≡ false
+          → (t && false && eqb (edition .columns * fields + 1 + (edition .columns + 1) * length (table-of edition fields input))
+          (length input)) ≡ false
       short-other-by-cases true = refl
       short-other-by-cases false = refl
 
-  pub short-refused : (r : Lines) → length input < columns * fields + 1 → r ≡ other-form → r ≡ lines-of fields input
+  pub short-refused : (r : Lines) → length input < edition .columns * fields + 1 → r ≡ other-form → r ≡ lines-of edition fields input
   unfolding lines-of
   short-refused r h e = e ∙ rw (short-other h)
 
-  pub short-table : (table : List ℕ) → length input < columns * fields + 1 → table ≡ in-front (table-of fields input) table
+  pub short-table : (table : List ℕ) → length input < edition .columns * fields + 1 → table ≡ in-front (table-of edition fields input) table
   unfolding in-front table-of
-  short-table table h = rw (drop-of-length-le input {i = columns * fields + 1} (omega arith), no-lines)
+  short-table table h = rw (drop-of-length-le input {i = edition .columns * fields + 1} (omega arith), no-lines)
 
   -- INPUT WITH A CASE LINE
-  pub numbers-left : (numbers now : List ℕ) → now ≡ in-front (leading false fields input) numbers
-      → now ≡ in-front (numbers-of fields input) numbers
+  pub numbers-left : (numbers now : List ℕ) → now ≡ in-front (leading edition false fields input) numbers
+      → now ≡ in-front (numbers-of edition fields input) numbers
   unfolding numbers-of
   numbers-left numbers now e = e
 
   -- the table's lines, as the code lends them
-  rest-table : leading true 256 (take (length input - (columns * fields + 1)) (drop (columns * fields + 1) input)) ≡ table-of fields input
+  rest-table : leading edition true 256 (take (length input - (edition .columns * fields + 1)) (drop (edition .columns * fields + 1) input))
+      ≡ table-of edition fields input
   unfolding table-of
   rest-table =
-      ap (leading true 256)
-      (take-all (length input - (columns * fields + 1)) (drop (columns * fields + 1) input)
-      (omega (arith, length-drop (columns * fields + 1) input)))
+      ap (leading edition true 256)
+      (take-all (length input - (edition .columns * fields + 1)) (drop (edition .columns * fields + 1) input)
+      (omega (arith, length-drop (edition .columns * fields + 1) input)))
 
   pub table-left : (table now : List ℕ) → length table ≡ 256
-      → now ≡ in-front (leading true (length table) (take (length input - (columns * fields + 1)) (drop (columns * fields + 1) input))) table
-      → now ≡ in-front (table-of fields input) table
+      → now ≡ in-front
+      (leading edition true (length table) (take (length input - (edition .columns * fields + 1)) (drop (edition .columns * fields + 1) input)))
+      table
+      → now ≡ in-front (table-of edition fields input) table
   table-left table now l e = e ∙ rw l (ap (λ es. in-front es table) rest-table)
 
-  module _ (t : Bool) (numbers entries room : ℕ) (l : room ≡ 256) (f : numbers ≡ length (leading false fields input))
-      (e : entries ≡ length (leading true room (take (length input - (columns * fields + 1)) (drop (columns * fields + 1) input))))
-      (c : t ≡ complete fields numbers entries input) where
-    same-entries : entries ≡ length (table-of fields input)
+  module _ (t : Bool) (numbers entries room : ℕ) (l : room ≡ 256) (f : numbers ≡ length (leading edition false fields input))
+      (e : entries
+      ≡ length (leading edition true room (take (length input - (edition .columns * fields + 1)) (drop (edition .columns * fields + 1) input))))
+      (c : t ≡ complete edition fields numbers entries input) where
+    same-entries : entries ≡ length (table-of edition fields input)
     same-entries = e ∙ rw l (ap length rest-table)
 
-    told : well-formed fields input ≡ t
+    told : well-formed edition fields input ≡ t
     unfolding well-formed numbers-of
-    told = sym (c ∙ ap₂ (λ a b. complete fields a b input) f same-entries)
+    told = sym (c ∙ ap₂ (λ a b. complete edition fields a b input) f same-entries)
 
-    pub other-refused : (r : Lines) → not t ≡ true → r ≡ other-form → r ≡ lines-of fields input
+    pub other-refused : (r : Lines) → not t ≡ true → r ≡ other-form → r ≡ lines-of edition fields input
     unfolding lines-of
     other-refused r n q = q ∙ rw (told ∙ not-true t n)
 
-    pub lines-taken : not t ≡ false → record { malformed = false; entries = entries } ≡ lines-of fields input
+    pub lines-taken : not t ≡ false → record { malformed = false; entries = entries } ≡ lines-of edition fields input
     unfolding lines-of
     lines-taken n = rw (told ∙ not-false t n, same-entries)
 
+  -- its parts, one after the other
+  module _ (numbers entries : ℕ) where
+    pub other-count : (numbers ≡ fields → ⊥) → false ≡ complete edition fields numbers entries input
+    unfolding complete
+    other-count h = rw (ne-eqb _ _ h)
+
+    pub no-feed : numbers ≡ fields → (getD input (edition .columns * fields) 0 ≡ 10 → ⊥)
+        → false ≡ complete edition fields numbers entries input
+    unfolding complete
+    no-feed e h = rw (eq-eqb _ _ e, ne-eqb _ _ h)
+
+    pub lines-decide : numbers ≡ fields → getD input (edition .columns * fields) 0 ≡ 10
+        → eqb (edition .columns * fields + 1 + (edition .columns + 1) * entries) (length input) ≡ complete edition fields numbers entries input
+    unfolding complete
+    lines-decide e f = rw (eq-eqb _ _ e, eq-eqb _ _ f)
+
+    lines-most : edition .columns ≤ 256 → entries ≤ 256 → (edition .columns + 1) * entries ≤ 257 * 256
+    lines-most c h = mul-le-mul {n₂ = 257} (omega arith) h
+
+    pub lines-fit : edition .columns ≤ 256 → entries ≤ 256 → Fits w64 ((edition .columns + 1) * entries)
+    lines-fit c h = record { fits = omega (arith, lines-most c h) }
+
+    pub sheet-fits : edition .columns ≤ 256 → fields ≤ 256 → entries ≤ 256
+        → Fits w64 (edition .columns * fields + 1 + (edition .columns + 1) * entries)
+    sheet-fits c f h = record { fits = omega (arith, lines-most c h, mul-le-mul c f) }
+
   -- A SHEET THAT WAS READ
-  every-number : well-formed fields input ≡ true → length (numbers-of fields input) ≡ fields
+  pub every-number : well-formed edition fields input ≡ true → length (numbers-of edition fields input) ≡ fields
   unfolding well-formed complete
   every-number e = eqb-true _ fields (and-eq-true-iff _ _ .0 (and-eq-true-iff _ _ .0 e .0) .0)
 
   -- as many numbers leave nothing of what stood there
-  pub numbers-read : (old now : List ℕ) → length old ≡ fields → well-formed fields input ≡ true
-      → now ≡ in-front (numbers-of fields input) old → now ≡ numbers-of fields input
+  pub numbers-read : (old now : List ℕ) → length old ≡ fields → well-formed edition fields input ≡ true
+      → now ≡ in-front (numbers-of edition fields input) old → now ≡ numbers-of edition fields input
   unfolding in-front
   numbers-read old now l w e =
-      let none : drop (length (numbers-of fields input)) old ≡ [] = drop-of-length-le old {i = length (numbers-of fields input)} (omega (arith, every-number w)) in
-      e ∙ rw none (append-nil (numbers-of fields input))
+      let none : drop (length (numbers-of edition fields input)) old ≡ []
+      = drop-of-length-le old {i = length (numbers-of edition fields input)} (omega (arith, every-number w)) in
+      e ∙ rw none (append-nil (numbers-of edition fields input))
 
-  module _ (s : Lines) (told : s ≡ lines-of fields input) where
-    pub read-malformed : s .malformed ≡ true → well-formed fields input ≡ false
+  module _ (s : Lines) (told : s ≡ lines-of edition fields input) where
+    pub read-malformed : s .malformed ≡ true → well-formed edition fields input ≡ false
     unfolding lines-of
-    read-malformed m = read-malformed-by-cases (well-formed fields input) refl
+    read-malformed m = read-malformed-by-cases (well-formed edition fields input) refl
       where
-        read-malformed-by-cases : (t : Bool) → well-formed fields input ≡ t → t ≡ false
+        read-malformed-by-cases : (t : Bool) → well-formed edition fields input ≡ t → t ≡ false
         read-malformed-by-cases false w = refl
         read-malformed-by-cases true w = sym m ∙ rw (told, w)
 
-    pub read-formed : s .malformed ≡ false → well-formed fields input ≡ true
+    pub read-formed : s .malformed ≡ false → well-formed edition fields input ≡ true
     unfolding lines-of other-form
-    read-formed m = sym (read-formed-by-cases (well-formed fields input) refl)
+    read-formed m = sym (read-formed-by-cases (well-formed edition fields input) refl)
       where
-        read-formed-by-cases : (t : Bool) → well-formed fields input ≡ t → true ≡ t
+        read-formed-by-cases : (t : Bool) → well-formed edition fields input ≡ t → true ≡ t
         read-formed-by-cases true w = refl
         read-formed-by-cases false w =
             let other : s .malformed ≡ true = rw (told, w) in
             sym other ∙ m
 
   -- the table's entries in front of the table
-  module _ (old table : List ℕ) (left : table ≡ in-front (table-of fields input) old) (entries : ℕ)
-      (told : entries ≡ lines-of fields input .entries) where
-    pub table-lent : well-formed fields input ≡ true → take entries table ≡ table-of fields input
+  module _ (old table : List ℕ) (left : table ≡ in-front (table-of edition fields input) old) (entries : ℕ)
+      (told : entries ≡ lines-of edition fields input .entries) where
+    pub table-lent : well-formed edition fields input ≡ true → take entries table ≡ table-of edition fields input
     unfolding lines-of in-front
-    table-lent w = rw (told, w, left) (take-at (table-of fields input) _ _ refl)
+    table-lent w = rw (told, w, left) (take-at (table-of edition fields input) _ _ refl)
 
     pub entries-lent : entries ≡ length (take entries table)
     unfolding lines-of other-form
-    entries-lent = entries-lent-by-cases (well-formed fields input) refl
+    entries-lent = entries-lent-by-cases (well-formed edition fields input) refl
       where
-        entries-lent-by-cases : (t : Bool) → well-formed fields input ≡ t → entries ≡ length (take entries table)
+        entries-lent-by-cases : (t : Bool) → well-formed edition fields input ≡ t → entries ≡ length (take entries table)
         entries-lent-by-cases true w = told ∙ rw w (sym (ap length (table-lent w)))
         entries-lent-by-cases false w = rw (told, w)
+
+    pub entries-few : entries ≤ 256
+    unfolding lines-of other-form table-of
+    entries-few = entries-few-by-cases (well-formed edition fields input) refl
+      where
+        entries-few-by-cases : (t : Bool) → well-formed edition fields input ≡ t → entries ≤ 256
+        entries-few-by-cases true w = rw (told, w) (leading-most edition true 256 _)
+        entries-few-by-cases false w = rw (told, w) (omega arith)
 
     pub entries-within : entries ≤ length table
     entries-within = omega (arith, entries-lent, length-take entries table)
 
-pub few-entries : (rest : List ℕ) (room entries : ℕ) → room ≡ 256 → entries ≡ length (leading true room rest) → entries ≤ 256
-few-entries rest room entries l e = omega (arith, leading-most true room rest)
+pub few-entries : (edition : Edition) (rest : List ℕ) (room entries : ℕ) → room ≡ 256 → entries ≡ length (leading edition true room rest)
+    → entries ≤ 256
+few-entries edition rest room entries l e = omega (arith, leading-most edition true room rest)
 
 -- THE BENCH'S SHEET
-pub sheet-refused : (r : Sheet) (s : Lines) (input : List ℕ) → s ≡ lines-of 10 input → s .malformed ≡ true → r ≡ refused → r ≡ sheet-of input
-unfolding sheet-of
-sheet-refused r s input told m e = e ∙ rw (read-malformed 10 input s told m)
+module _ (edition : Edition) (told : edition ≡ six-columns) where
+  pub six-few : edition .columns ≤ 256
+  six-few = rw told (omega arith)
 
-pub sheet-taken : (r : Sheet) (s : Lines) (input numbers : List ℕ) → s ≡ lines-of 10 input
-    → numbers ≡ in-front (numbers-of 10 input) (replicate 10 0) → s .malformed ≡ false → r ≡ accepted numbers (s .entries) → r ≡ sheet-of input
-unfolding sheet-of lines-of
-sheet-taken r s input numbers told left m e =
-    let w : well-formed 10 input ≡ true = read-formed 10 input s told m in
-    e ∙ rw (numbers-read 10 input (replicate 10 0) numbers refl w left, told, w)
+  pub six-table : (input old now : List ℕ) → now ≡ in-front (table-of edition 10 input) old → now ≡ in-front (table-of six-columns 10 input) old
+  six-table input old now e = e ∙ rw told
 
--- ten numbers, each in its place
-pub ten-taken : (numbers : List ℕ) (entries method n m x0 r1 r2 s1 s2 r3 b : ℕ)
-    → method ≡ getD numbers 0 0 → n ≡ getD numbers 1 0 → m ≡ getD numbers 2 0 → x0 ≡ getD numbers 3 0 → r1 ≡ getD numbers 4 0
-    → r2 ≡ getD numbers 5 0 → s1 ≡ getD numbers 6 0 → s2 ≡ getD numbers 7 0 → r3 ≡ getD numbers 8 0 → b ≡ getD numbers 9 0
-    → record { malformed = false; case = record { method = method; n = n; m = m; x0 = x0; r1 = r1; r2 = r2; s1 = s1; s2 = s2; r3 = r3; b = b }; entries = entries } ≡ accepted numbers entries
-unfolding accepted case-read
-ten-taken numbers entries method n m x0 r1 r2 s1 s2 r3 b e0 e1 e2 e3 e4 e5 e6 e7 e8 e9 = rw (e0, e1, e2, e3, e4, e5, e6, e7, e8, e9)
+  module _ (r : Sheet) (s : Lines) (input : List ℕ) (lines : s ≡ lines-of edition 10 input) where
+    six-lines : s ≡ lines-of six-columns 10 input
+    six-lines = lines ∙ rw told
+
+    pub sheet-refused : s .malformed ≡ true → r ≡ refused → r ≡ sheet-of input
+    unfolding sheet-of
+    sheet-refused m e = e ∙ rw (read-malformed six-columns 10 input s six-lines m)
+
+    pub sheet-taken : (numbers : List ℕ) → numbers ≡ in-front (numbers-of edition 10 input) (replicate 10 0) → s .malformed ≡ false
+        → r ≡ accepted numbers (s .entries) → r ≡ sheet-of input
+    unfolding sheet-of lines-of
+    sheet-taken numbers left m e =
+        let w : well-formed six-columns 10 input ≡ true = read-formed six-columns 10 input s six-lines m in
+        e ∙ rw (numbers-read six-columns 10 input (replicate 10 0) numbers refl w (left ∙ rw told), six-lines, w)

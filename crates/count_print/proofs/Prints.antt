@@ -1,59 +1,120 @@
 -- From the sheet that was read to the print.
-use mathlib.Core.Path.{_≡_, refl, ap, _∙_}
+use mathlib.Core.Path.{_≡_, refl, sym, ap, _∙_}
 use mathlib.Core.Bool.{true, false}
-use mathlib.Core.List.{List, [], _∷_}
-use Prim.Native.Nat.{ℕ, _≤_}
-use lib.ListN.{length, getD, take, replicate}
+use mathlib.Core.List.{List, [], _∷_, _++_, append-assoc}
+use Prim.Native.Nat.{ℕ, _^_, _≤_}
+use native.Mathlib.Omega.{arith}
+use borrow.Author.Tests.{ne-eqb}
+use lib.Dec.{leb}
+use lib.ListN.{length, take, replicate}
+use Rattle.refusals.specs.Checks.{_when_, first-of}
 use Rattle.buffers.specs.Written.{in-front}
+use Rattle.wide_table.specs.Wide.{wide, method-and-table, wide-refusal}
+use Rattle.wide_table.proofs.Refusing.{none-wide, wide-first}
+use Rattle.wide_table.proofs.Narrowing.{bytes-taken, bytes-lent as narrowed-lent, bytes-within as narrowed-within}
+use Rattle.case_sheet.specs.declared.Edition.{Edition}
 use Rattle.case_sheet.specs.declared.Lines.{Lines}
+use Rattle.case_sheet.specs.Edition.{six-columns}
 use Rattle.case_sheet.specs.Sheet.{numbers-of, table-of, well-formed, lines-of}
-use Rattle.case_sheet.proofs.Sheets.{read-malformed, read-formed, numbers-read, table-lent, entries-lent, entries-within}
+use Rattle.case_sheet.proofs.Sheets.{read-malformed, read-formed, numbers-read, table-lent, entries-few, entries-lent, entries-within}
 use Rattle.log_print.specs.Lines.{line-of}
 use Rattle.count_sheet.specs.declared.ProbePair.{ProbePair}
-use Rattle.count_print.specs.Print.{pair-read, reply, print}
+use Rattle.count_sheet.specs.Refusals.{pair-checks, buffer-checks, sheet-checks, count-refusal}
+use Rattle.count_print.specs.Print.{pair-read, print-refusal, reply, print}
 
--- six numbers, each in its place
-pub six-taken : (numbers : List ℕ) (method n m secret first second : ℕ) → method ≡ getD numbers 0 0 → n ≡ getD numbers 1 0
-    → m ≡ getD numbers 2 0 → secret ≡ getD numbers 3 0 → first ≡ getD numbers 4 0 → second ≡ getD numbers 5 0
-    → record { method = method; n = n; m = m; secret = secret; first = first; second = second } ≡ pair-read numbers
-unfolding pair-read
-six-taken numbers method n m secret first second e0 e1 e2 e3 e4 e5 = rw (e0, e1, e2, e3, e4, e5)
+-- what refuses a wide table is the print's refusal
+wide-pair : (p : ProbePair) (table : List ℕ) → (wide-refusal (p .method) (p .n) (p .m) table ≡ 0 → ⊥)
+    → wide-refusal (p .method) (p .n) (p .m) table ≡ print-refusal p table
+unfolding print-refusal count-refusal pair-checks method-and-table
+wide-pair p table h =
+    let secret = 10 when (leb (2 ^ p .n) (p .secret)) ∷ [] in
+    let lent = buffer-checks p (replicate 512 0) (replicate 2400 0) in
+    let sheet = sheet-checks p (replicate 64 0) in
+    let whole : method-and-table (p .method) (p .n) (p .m) table ++ (secret ++ (lent ++ sheet)) ≡ (pair-checks p table ++ lent) ++ sheet
+    = simp append-assoc in
+    wide-first (p .method) (p .n) (p .m) table (secret ++ (lent ++ sheet)) h ∙ ap first-of whole
 
-module _ (input : List ℕ) (s : Lines) (told : s ≡ lines-of 6 input) where
+refusal-line : (p : ProbePair) (table : List ℕ) (k : ℕ) → (k ≡ 0 → ⊥) → k ≡ print-refusal p table → line-of 6 (k ∷ []) ≡ reply p table
+unfolding reply
+refusal-line p table k h e = rw (e, ne-eqb (print-refusal p table) 0 (λ z. h (e ∙ z)))
+
+module _ (edition : Edition) (six : edition ≡ six-columns) (input : List ℕ) (s : Lines) (told : s ≡ lines-of edition 6 input) where
+  lines : s ≡ lines-of six-columns 6 input
+  lines = told ∙ rw six
+
   -- another form
   module _ (m : s .malformed ≡ true) where
-    other-print : line-of 4 (1 ∷ []) ≡ print input
+    other-print : line-of 6 (1 ∷ []) ≡ print input
     unfolding print
-    other-print = rw (read-malformed 6 input s told m)
+    other-print = rw (read-malformed six-columns 6 input s lines m)
 
-    pub other-long : {k : ℕ} → k ≡ length (line-of 4 (1 ∷ [])) → k ≡ length (print input)
+    pub other-long : {k : ℕ} → k ≡ length (line-of 6 (1 ∷ [])) → k ≡ length (print input)
     other-long e = e ∙ ap length other-print
 
-    pub other-left : (before now : List ℕ) → now ≡ in-front (line-of 4 (1 ∷ [])) before → now ≡ in-front (print input) before
+    pub other-left : (before now : List ℕ) → now ≡ in-front (line-of 6 (1 ∷ [])) before → now ≡ in-front (print input) before
     other-left before now e = e ∙ ap (λ l. in-front l before) other-print
 
-  module _ (old table : List ℕ) (left : table ≡ in-front (table-of 6 input) old) where
-    same-entries : s .entries ≡ lines-of 6 input .entries
-    same-entries = ap (λ y. y .entries) told
+  module _ (old table : List ℕ) (left : table ≡ in-front (table-of edition 6 input) old) where
+    read : table ≡ in-front (table-of six-columns 6 input) old
+    read = left ∙ rw six
+
+    same-entries : s .entries ≡ lines-of six-columns 6 input .entries
+    same-entries = ap (λ y. y .entries) lines
 
     pub table-counted : s .entries ≡ length (take (s .entries) table)
-    table-counted = entries-lent 6 input old table left (s .entries) same-entries
+    table-counted = entries-lent six-columns 6 input old table read (s .entries) same-entries
 
     pub table-within : s .entries ≤ length table
-    table-within = entries-within 6 input old table left (s .entries) same-entries
+    table-within = entries-within six-columns 6 input old table read (s .entries) same-entries
+
+    pub bytes-room : (zeros : List ℕ) → zeros ≡ replicate 256 0 → length (take (s .entries) table) ≤ length zeros
+    bytes-room zeros e = rw e (omega (arith, table-counted, entries-few six-columns 6 input old table read (s .entries) same-entries))
+
+    module _ (zeros bytes : List ℕ) (narrowed : bytes ≡ in-front (take (s .entries) table) zeros) where
+      pub bytes-counted : s .entries ≡ length (take (s .entries) bytes)
+      bytes-counted = narrowed-lent (take (s .entries) table) zeros bytes narrowed (s .entries) table-counted
+
+      pub bytes-within : s .entries ≤ length bytes
+      bytes-within = narrowed-within (take (s .entries) table) zeros bytes narrowed (s .entries) table-counted
 
     -- the right form
-    module _ (m : s .malformed ≡ false) (numbers : List ℕ) (read : numbers ≡ in-front (numbers-of 6 input) (replicate 6 0)) (p : ProbePair)
+    module _ (m : s .malformed ≡ false) (numbers : List ℕ)
+        (listed : numbers ≡ in-front (numbers-of edition 6 input) (replicate 6 0)) (p : ProbePair)
         (pair : p ≡ pair-read numbers) where
+      formed : well-formed six-columns 6 input ≡ true
+      formed = read-formed six-columns 6 input s lines m
+
       answer : reply p (take (s .entries) table) ≡ print input
       unfolding print
       answer =
-          let w : well-formed 6 input ≡ true = read-formed 6 input s told m in
-          rw (table-lent 6 input old table left (s .entries) same-entries w, pair, numbers-read 6 input (replicate 6 0) numbers refl w read, w)
+          let taken : numbers ≡ numbers-of six-columns 6 input
+          = numbers-read six-columns 6 input (replicate 6 0) numbers refl formed (listed ∙ rw six) in
+          rw (table-lent six-columns 6 input old table read (s .entries) same-entries formed, pair, taken, formed)
 
-      pub answer-long : {k : ℕ} → k ≡ length (reply p (take (s .entries) table)) → k ≡ length (print input)
-      answer-long e = e ∙ ap length answer
+      module _ (w : ℕ) (looked : w ≡ wide-refusal (p .method) (p .n) (p .m) (take (s .entries) table)) where
+        -- refused for an entry above 255
+        wide-print : (w ≡ 0 → ⊥) → line-of 6 (w ∷ []) ≡ print input
+        wide-print h =
+            let number : w ≡ print-refusal p (take (s .entries) table)
+            = looked ∙ wide-pair p (take (s .entries) table) (λ z. h (looked ∙ z)) in
+            refusal-line p (take (s .entries) table) w h number ∙ answer
 
-      pub answer-left : (before now : List ℕ) → now ≡ in-front (reply p (take (s .entries) table)) before
-          → now ≡ in-front (print input) before
-      answer-left before now e = e ∙ ap (λ l. in-front l before) answer
+        pub wide-long : {k : ℕ} → (w ≡ 0 → ⊥) → k ≡ length (line-of 6 (w ∷ [])) → k ≡ length (print input)
+        wide-long h e = e ∙ ap length (wide-print h)
+
+        pub wide-left : (before now : List ℕ) → (w ≡ 0 → ⊥) → now ≡ in-front (line-of 6 (w ∷ [])) before → now ≡ in-front (print input) before
+        wide-left before now h e = e ∙ ap (λ l. in-front l before) (wide-print h)
+
+        -- each entry is a byte
+        pub not-wide : w ≡ 0 → wide (take (s .entries) table) ≡ false
+        not-wide z = none-wide (p .method) (p .n) (p .m) (take (s .entries) table) (sym looked ∙ z)
+
+      module _ (zeros bytes : List ℕ) (narrowed : bytes ≡ in-front (take (s .entries) table) zeros) where
+        answered : reply p (take (s .entries) bytes) ≡ print input
+        answered = ap (reply p) (bytes-taken (take (s .entries) table) zeros bytes narrowed (s .entries) table-counted) ∙ answer
+
+        pub answer-long : {k : ℕ} → k ≡ length (reply p (take (s .entries) bytes)) → k ≡ length (print input)
+        answer-long e = e ∙ ap length answered
+
+        pub answer-left : (before now : List ℕ) → now ≡ in-front (reply p (take (s .entries) bytes)) before → now ≡ in-front (print input) before
+        answer-left before now e = e ∙ ap (λ l. in-front l before) answered

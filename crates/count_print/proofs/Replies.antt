@@ -24,14 +24,14 @@ use Rattle.count_print.proofs.Refusals.{width-small, side-most}
 module _ (p : ProbePair) (table : List ℕ) (refusal : ℕ)
     (told : refusal ≡ count-refusal p table (replicate 512 0) (replicate 2400 0) (replicate 64 0)) where
   -- refused
-  refused : (refusal ≡ 0 → ⊥) → line-of 4 (refusal ∷ []) ≡ reply p table
+  refused : (refusal ≡ 0 → ⊥) → line-of 6 (refusal ∷ []) ≡ reply p table
   unfolding reply print-refusal
   refused h = rw (told, ne-eqb _ 0 (λ z. h (told ∙ z)))
 
-  pub refused-long : {k : ℕ} → (refusal ≡ 0 → ⊥) → k ≡ length (line-of 4 (refusal ∷ [])) → k ≡ length (reply p table)
+  pub refused-long : {k : ℕ} → (refusal ≡ 0 → ⊥) → k ≡ length (line-of 6 (refusal ∷ [])) → k ≡ length (reply p table)
   refused-long h e = e ∙ ap length (refused h)
 
-  pub refused-left : (before now : List ℕ) → (refusal ≡ 0 → ⊥) → now ≡ in-front (line-of 4 (refusal ∷ [])) before
+  pub refused-left : (before now : List ℕ) → (refusal ≡ 0 → ⊥) → now ≡ in-front (line-of 6 (refusal ∷ [])) before
       → now ≡ in-front (reply p table) before
   refused-left before now h e = e ∙ ap (λ l. in-front l before) (refused h)
 

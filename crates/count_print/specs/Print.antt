@@ -1,9 +1,10 @@
--- The print that answers a probe sheet: a case sheet whose case line has six numbers.
+-- The print that answers a probe sheet: a case sheet of six columns whose case line has six numbers.
 use mathlib.Core.Bool.{cond}
 use mathlib.Core.List.{List, [], _∷_}
 use Prim.Native.Nat.{ℕ, _^_}
 use lib.Dec.{eqb}
 use lib.ListN.{getD, replicate}
+use Rattle.case_sheet.specs.Edition.{six-columns}
 use Rattle.case_sheet.specs.Sheet.{numbers-of, table-of, well-formed}
 use Rattle.log_print.specs.Lines.{line-of, count-lines}
 use Rattle.count_sheet.specs.declared.ProbePair.{ProbePair}
@@ -31,8 +32,10 @@ print-refusal p table = count-refusal p table (replicate 512 0) (replicate 2400 
 unfoldable pub reply : ProbePair → (table : List ℕ) → List ℕ
 reply p table =
     cond (eqb (print-refusal p table) 0) (count-lines (2 ^ value-width p) (2 ^ value-width p) (counts table p))
-    (line-of 4 (print-refusal p table ∷ []))
+    (line-of 6 (print-refusal p table ∷ []))
 
 -- the whole output: 1 where the input is of another form
 unfoldable pub print : (input : List ℕ) → List ℕ
-print input = cond (well-formed 6 input) (reply (pair-read (numbers-of 6 input)) (table-of 6 input)) (line-of 4 (1 ∷ []))
+print input =
+    cond (well-formed six-columns 6 input) (reply (pair-read (numbers-of six-columns 6 input)) (table-of six-columns 6 input))
+    (line-of 6 (1 ∷ []))

@@ -10,28 +10,40 @@ pub fn print(input: &[u8], output: &mut [u8; 1024]) -> usize
     ensures { λ r. ⌜ r ≡ length (Print·print (now (input .entry))) ⌝ }
     ensures { λ _. ⌜ now (output .exit) ≡ in-front (Print·print (now (input .entry))) (now (output .entry)) ⌝ }
 {
-    let mut numbers = [0u8; 6];
-    let mut table = [0u8; 256];
-    let lines = case_sheet::read_numbers(input, &mut numbers, &mut table);
+    let mut numbers = [0u32; 6];
+    let mut table = [0u32; 256];
+    let lines = case_sheet::read_numbers(
+        input,
+        case_sheet::six_columns(),
+        &mut numbers,
+        &mut table,
+    );
     if lines.malformed {
         return log_print::put_refusal(output, 1);
     }
+    let pair = pair_from(&numbers);
     let entries = lines.entries;
-    reply(pair_from(&numbers), &table[..entries], output)
+    let wide = wide_table::wide_refusal(pair.method, pair.n, pair.m, &table[..entries]);
+    if wide != 0 {
+        return log_print::put_refusal(output, wide);
+    }
+    let mut bytes = [0u8; 256];
+    wide_table::narrow(&table[..entries], &mut bytes);
+    reply(pair, &bytes[..entries], output)
 }
 
 // The probe pair of six numbers, so it has a `requires`.
-fn pair_from(numbers: &[u8]) -> ProbePair
+fn pair_from(numbers: &[u32]) -> ProbePair
     requires { ⌜ length (now numbers) ≡ 6 ⌝ }
     ensures { λ r. ⌜ r ≡ pair-read (now (numbers .entry)) ⌝ }
 {
     ProbePair {
-        method: case_sheet::number(numbers, 0),
-        n: case_sheet::number(numbers, 1),
-        m: case_sheet::number(numbers, 2),
-        secret: case_sheet::number(numbers, 3),
-        first: case_sheet::number(numbers, 4),
-        second: case_sheet::number(numbers, 5),
+        method: numbers[0],
+        n: numbers[1],
+        m: numbers[2],
+        secret: numbers[3],
+        first: numbers[4],
+        second: numbers[5],
     }
 }
 

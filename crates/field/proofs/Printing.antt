@@ -1,13 +1,18 @@
 -- How a number is printed: its last digit first, and what is left of it before that.
 use mathlib.Core.Path.{_≡_, refl, sym, _∙_}
 use mathlib.Core.List.{List, [], _∷_, _++_, append-assoc, append-nil}
-use Prim.Native.Nat.{ℕ, zero, suc, _+_, _-_, _/_, _%_, _≤_, _<_}
-use native.Mathlib.Nat.{add-zero}
+use Prim.Native.Nat.{ℕ, zero, suc, _+_, _-_, _/_, _%_, _^_, _≤_, _<_}
+use native.Mathlib.Nat.{add-zero, div-lt-iff-lt-mul, pow-suc}
 use native.Mathlib.Omega.{arith}
+use lib.Dec.{lit<}
 use lib.ListN.{length, take, drop, set, take-append-drop, length-append, length-set}
 use lib.Seq.{take-set-le, set-split, drop-at, length-take-le}
 use Rattle.buffers.specs.Written.{written}
 use Rattle.field.specs.Printed.{mark, front, printed}
+
+-- a digit less
+pub tenth : (columns value : ℕ) → value < 10 ^ suc columns → value / 10 < 10 ^ columns
+tenth columns value h = div-lt-iff-lt-mul {k = 10} (lit< tt) .1 (rw pow-suc at h)
 
 pub front-long : (columns left : ℕ) → length (front columns left) ≡ columns
 unfolding front

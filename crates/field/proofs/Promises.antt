@@ -3,7 +3,7 @@ use mathlib.Core.Path.{_≡_, refl, ap, _∙_}
 use mathlib.Core.Bool.{Bool, true, false, _&&_, cond}
 use mathlib.Core.List.{List, [], _∷_, _++_, append-assoc}
 use Prim.Native.Nat.{ℕ, zero, suc, _+_, _*_, _-_, _/_, _%_, _^_, _<_}
-use native.Mathlib.Nat.{div-add-mod', mod-lt, div-lt-iff-lt-mul, pow-suc}
+use native.Mathlib.Nat.{div-add-mod', mod-lt}
 use native.Mathlib.Omega.{arith}
 use borrow.Author.Tests.{le-leb, eq-eqb, ne-eqb}
 use lib.Dec.{eqb, lit<}
@@ -13,10 +13,7 @@ use Rattle.field.specs.declared.Field.the-variants.{Number, Malformed}
 use Rattle.field.specs.Field.{digit, decimal, number, spaces, up-to, field-of}
 use Rattle.field.specs.Printed.{mark, front, printed}
 use Rattle.field.specs.Promises.{Read-back}
-use Rattle.field.proofs.Printing.{printed-long}
-
-tenth : (columns value : ℕ) → value < 10 ^ suc columns → value / 10 < 10 ^ columns
-tenth columns value h = div-lt-iff-lt-mul {k = 10} (lit< tt) .1 (rw pow-suc at h)
+use Rattle.field.proofs.Printing.{tenth, printed-long}
 
 -- what follows the spaces in front
 unspaced : List ℕ → List ℕ

@@ -56,7 +56,7 @@ spaces-within (byte ∷ bytes) = spaces-within-by-cases (eqb byte 32) (spaces-wi
     spaces-within-by-cases false h = omega arith
 
 -- DIGITS
-digit-low : (byte : ℕ) → digit byte ≡ true → 48 ≤ byte
+pub digit-low : (byte : ℕ) → digit byte ≡ true → 48 ≤ byte
 unfolding digit
 digit-low byte e = leb-true 48 byte (and-eq-true-iff (leb 48 byte) (leb byte 57) .0 e .0)
 

@@ -11,8 +11,9 @@ use lib.ListN.{length, take, drop, length-append, length-drop}
 use lib.Seq.{length-take-le}
 use Rattle.buffers.specs.Written.{written, in-front}
 use Rattle.buffers.proofs.Written.{written-none, written-more, written-long, written-front}
+use Rattle.buffers.proofs.Blocks.{once-more, once-more-within}
 use Rattle.log_print.specs.Lines.{line-of, count-lines}
-use Rattle.log_print.proofs.Lines.{once-more, once-more-within, line-long}
+use Rattle.log_print.proofs.Lines.{line-long}
 
 -- so many counts from a position on
 part-long : (counts : List ℕ) (start side : ℕ) → start + side ≤ length counts → length (take side (drop start counts)) ≡ side

@@ -1,4 +1,5 @@
 -- The laws of printed lines.
 pub mod Lines
+pub mod Columns
 pub mod Entries
 pub mod Counts

@@ -5,7 +5,7 @@ use mathlib.Core.List.{List, [], _∷_, _++_}
 use Prim.Native.Nat.{ℕ, zero, suc, _+_, _^_, _≤_, _<_}
 use native.Mathlib.Numerals.{add-one}
 use native.Mathlib.Omega.{arith}
-use borrow.Author.Tests.{leb-false, ltb-false, le-leb, lt-leb, lt-ltb, le-ltb}
+use borrow.Author.Tests.{leb-true, leb-false, ltb-false, le-leb, lt-leb, lt-ltb, le-ltb}
 use lib.Dec.{leb, ltb}
 use lib.ListN.{length, getD, drop, replicate, drop-of-length-le}
 use lib.Seq.{drop-cons}
@@ -87,6 +87,17 @@ some-here least x xs h = rw (le-leb least x h)
 pub some-later : (least x : ℕ) (xs : List ℕ) → any-from least xs ≡ true → any-from least (x ∷ xs) ≡ true
 unfolding any-from
 some-later least x xs e = rw e (or-true (leb least x))
+
+-- and so is one that is any lesser number or more
+pub any-less : (least lesser : ℕ) (xs : List ℕ) → lesser ≤ least → any-from least xs ≡ true → any-from lesser xs ≡ true
+unfolding any-from
+any-less least lesser [] h e = e
+any-less least lesser (x ∷ xs) h e = any-less-by-cases (leb least x) refl e (any-less least lesser xs h)
+  where
+    any-less-by-cases : (t : Bool) → leb least x ≡ t → (t || any-from least xs) ≡ true
+        → (any-from least xs ≡ true → any-from lesser xs ≡ true) → (leb lesser x || any-from lesser xs) ≡ true
+    any-less-by-cases true q e f = rw (le-leb lesser x (omega (arith, leb-true least x q)))
+    any-less-by-cases false q e f = rw (f e) (or-true (leb lesser x))
 
 -- a list behind a list
 pub any-either : (least : ℕ) (xs ys : List ℕ) → any-from least (xs ++ ys) ≡ (any-from least xs || any-from least ys)

@@ -1,6 +1,5 @@
--- What the logged call told, and the print that answers it; 1 where the sheet is malformed.
+-- What the logged call told, and the print that answers it.
 use mathlib.Core.Path.{_≡_, refl, sym, ap, _∙_}
-use mathlib.Core.Bool.{Bool, true, false, cond}
 use mathlib.Core.List.{List, [], _∷_}
 use Prim.Native.Nat.{ℕ, zero, suc, _+_, _*_, _≤_}
 use native.Mathlib.Omega.{arith}
@@ -54,80 +53,66 @@ module _ (c : Case) (table : List ℕ) where
     unfolding logged-reply
     number = ap (λ y. y .refusal) told ∙ called-number (logged-refusal c table scratch lent) _ _ ∙ same-refusal
 
-    module _ (malformed : Bool) (refusal : ℕ) (first : refusal ≡ cond malformed 1 (x .refusal)) where
-      -- refused
-      refused : (refusal ≡ 0 → ⊥) → line-of 4 (refusal ∷ []) ≡ cond malformed (line-of 4 (1 ∷ [])) (reply c table)
-      unfolding reply
-      refused h = refused-by-cases malformed first
-        where
-          refused-by-cases : (t : Bool) → refusal ≡ cond t 1 (x .refusal) → line-of 4 (refusal ∷ []) ≡ cond t (line-of 4 (1 ∷ [])) (reply c table)
-          refused-by-cases true e = rw e
-          refused-by-cases false e = rw (e, number, ne-eqb (case-refusal c table) 0 (λ z. h (e ∙ number ∙ z)))
+    -- refused
+    refused : (x .refusal ≡ 0 → ⊥) → line-of 6 (x .refusal ∷ []) ≡ reply 6 c table
+    unfolding reply
+    refused h = rw (number, ne-eqb (case-refusal c table) 0 (λ z. h (number ∙ z)))
 
-      pub refused-long : {k : ℕ} → (refusal ≡ 0 → ⊥) → k ≡ length (line-of 4 (refusal ∷ []))
-          → k ≡ length (cond malformed (line-of 4 (1 ∷ [])) (reply c table))
-      refused-long h e = e ∙ ap length (refused h)
+    pub refused-long : {k : ℕ} → (x .refusal ≡ 0 → ⊥) → k ≡ length (line-of 6 (x .refusal ∷ [])) → k ≡ length (reply 6 c table)
+    refused-long h e = e ∙ ap length (refused h)
 
-      pub refused-left : (before now : List ℕ) → (refusal ≡ 0 → ⊥) → now ≡ in-front (line-of 4 (refusal ∷ [])) before
-          → now ≡ in-front (cond malformed (line-of 4 (1 ∷ [])) (reply c table)) before
-      refused-left before now h e = e ∙ ap (λ l. in-front l before) (refused h)
+    pub refused-left : (before now : List ℕ) → (x .refusal ≡ 0 → ⊥) → now ≡ in-front (line-of 6 (x .refusal ∷ [])) before
+        → now ≡ in-front (reply 6 c table) before
+    refused-left before now h e = e ∙ ap (λ l. in-front l before) (refused h)
 
-      -- accepted
-      module _ (z : refusal ≡ 0) where
-        well-formed : malformed ≡ false
-        well-formed = well-formed-by-cases malformed first
-          where
-            well-formed-by-cases : (t : Bool) → refusal ≡ cond t 1 (x .refusal) → t ≡ false
-            well-formed-by-cases true e = absurd (omega (arith, sym e ∙ z))
-            well-formed-by-cases false e = refl
+    -- accepted
+    module _ (z : x .refusal ≡ 0) where
+      whole : case-refusal c table ≡ 0
+      whole = sym number ∙ z
 
-        whole : case-refusal c table ≡ 0
-        whole = sym number ∙ sym (first ∙ rw well-formed) ∙ z
+      none : logged-refusal c table scratch lent ≡ 0
+      none = same-refusal ∙ whole
 
-        none : logged-refusal c table scratch lent ≡ 0
-        none = same-refusal ∙ whole
+      share : x .share ≡ answer c table
+      unfolding logged-reply called
+      share = ap (λ y. y .share) told ∙ rw none
 
-        share : x .share ≡ answer c table
-        unfolding logged-reply called
-        share = ap (λ y. y .share) told ∙ rw none
+      count : x .count ≡ log-length (c .method) (c .n)
+      unfolding logged-reply called
+      count = ap (λ y. y .count) told ∙ rw none
 
-        count : x .count ≡ log-length (c .method) (c .n)
-        unfolding logged-reply called
-        count = ap (λ y. y .count) told ∙ rw none
+      long : length (log-of c table) ≡ x .count
+      unfolding Log-long
+      long = log-long table c whole .0 ∙ sym count
 
-        long : length (log-of c table) ≡ x .count
-        unfolding Log-long
-        long = log-long table c whole .0 ∙ sym count
+      few : x .count ≤ 2314
+      few = rw count (log-small whole)
 
-        few : x .count ≤ 2314
-        few = rw count (log-small whole)
+      module _ (now : List ℕ) (left-is : now ≡ logged-log c table scratch lent) where
+        -- the entries in front are the log
+        entries : take (x .count) now ≡ log-of c table
+        unfolding logged-log left in-front
+        entries = rw (left-is, none) (take-at (log-of c table) _ (x .count) long)
 
-        module _ (now : List ℕ) (left-is : now ≡ logged-log c table scratch lent) where
-          -- the entries in front are the log
-          entries : take (x .count) now ≡ log-of c table
-          unfolding logged-log left in-front
-          entries = rw (left-is, none) (take-at (log-of c table) _ (x .count) long)
+        pub entries-lent : x .count ≡ length (take (x .count) now)
+        entries-lent = sym (ap length entries ∙ long)
 
-          pub entries-lent : x .count ≡ length (take (x .count) now)
-          entries-lent = sym (ap length entries ∙ long)
+        pub count-within : x .count ≤ length now
+        count-within = omega (arith, entries-lent, length-take (x .count) now)
 
-          pub count-within : x .count ≤ length now
-          count-within = omega (arith, entries-lent, length-take (x .count) now)
+        pub few-lent : length (take (x .count) now) ≤ 2400
+        few-lent = omega (arith, entries-lent, few)
 
-          pub few-lent : length (take (x .count) now) ≤ 2400
-          few-lent = omega (arith, entries-lent, few)
+        pub answer-room : (output : List ℕ) → length output ≡ 45056 → 19 * length (take (x .count) now) + 19 ≤ length output
+        answer-room output h = omega (arith, entries-lent, few)
 
-          pub answer-room : (output : List ℕ) → length output ≡ 32768 → 13 * length (take (x .count) now) + 13 ≤ length output
-          answer-room output h = omega (arith, entries-lent, few)
+        answered : answer-lines 6 (take (x .count) now) (x .share) (x .count) ≡ reply 6 c table
+        unfolding reply
+        answered = rw (entries, share, count, eq-eqb (case-refusal c table) 0 whole)
 
-          answered : answer-lines (take (x .count) now) (x .share) (x .count) ≡ cond malformed (line-of 4 (1 ∷ [])) (reply c table)
-          unfolding reply
-          answered = rw (entries, share, count, well-formed, eq-eqb (case-refusal c table) 0 whole)
+        pub answered-long : {k : ℕ} → k ≡ length (answer-lines 6 (take (x .count) now) (x .share) (x .count)) → k ≡ length (reply 6 c table)
+        answered-long e = e ∙ ap length answered
 
-          pub answered-long : {k : ℕ} → k ≡ length (answer-lines (take (x .count) now) (x .share) (x .count))
-              → k ≡ length (cond malformed (line-of 4 (1 ∷ [])) (reply c table))
-          answered-long e = e ∙ ap length answered
-
-          pub answered-left : (before after : List ℕ) → after ≡ in-front (answer-lines (take (x .count) now) (x .share) (x .count)) before
-              → after ≡ in-front (cond malformed (line-of 4 (1 ∷ [])) (reply c table)) before
-          answered-left before after e = e ∙ ap (λ l. in-front l before) answered
+        pub answered-left : (before after : List ℕ) → after ≡ in-front (answer-lines 6 (take (x .count) now) (x .share) (x .count)) before
+            → after ≡ in-front (reply 6 c table) before
+        answered-left before after e = e ∙ ap (λ l. in-front l before) answered

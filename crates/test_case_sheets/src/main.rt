@@ -2,12 +2,12 @@
 use test_records::Sheet;
 
 fn print_sheet(bytes: &[u8]) {
-    let mut output = [0u8; 32768];
+    let mut output = [0u8; 45056];
     let length = sheet::print(bytes, &mut output);
     write_print(&output, length);
 }
 
-fn write_print(output: &[u8; 32768], length: usize) {
+fn write_print(output: &[u8; 45056], length: usize) {
     console::write_front(output, length);
 }
 

@@ -1,12 +1,16 @@
 -- `case_sheet::accepted` meets its contract.
 use borrow.Author.Needs.{needs}
-use Rattle.case_sheet.proofs.Sheets.{ten-taken}
+use mathlib.Core.Path.{refl}
+use Rattle.case_sheet.specs.Sheet.{case-read, accepted}
 use Rattle.case_sheet.proofs.accepted.Statement.{statement}
 use Rattle.case_sheet.proofs.accepted.Tie as tie
+
+returns : tie.Need-returns
+unfolding accepted case-read
+returns c = refl
 
 pub accepted-spec : {M : Type 1} → statement M
 accepted-spec =
     tie.close
-    (tie.spec (λ c κs. search needs) (λ c κs. search needs) (λ c κs. search needs) (λ c κs. search needs) (λ c κs. search needs)
-    (λ c κs. search needs) (λ c κs. search needs) (λ c κs. search needs) (λ c κs. search needs) (λ c κs. search needs)
-    (λ c. search ten-taken))
+    (tie.spec (λ c. search needs) (λ c. search needs) (λ c. search needs) (λ c. search needs) (λ c. search needs) (λ c. search needs)
+    (λ c. search needs) (λ c. search needs) (λ c. search needs) (λ c. search needs) returns)

@@ -18,7 +18,7 @@ loop-again c =
     let called = c .before .before in
     let inside = called .before .before .before in
     let start = inside .before .before .before .before in
-    listing-turns _ _ _ _ _ _ (inside .loop-test .taken) (start .pre .1) (called .put-entry .ensures) (inside .before .loop .inv)
+    listing-turns _ _ _ _ _ (start .pre .1) (inside .before .loop .inv) _ (inside .loop-test .taken) (called .put-entry .ensures)
 
 pub put-entries-spec : {M : Type 1} → statement M
 put-entries-spec =

@@ -7,4 +7,5 @@ use Rattle.log_print.proofs.put_refusal.Tie as tie
 pub put-refusal-spec : {M : Type 1} → statement M
 put-refusal-spec =
     tie.close
-    (tie.spec (λ c. search needs) (λ c κs. search needs) (λ c. search needs) (λ c. (search refusal-long, search refusal-left)))
+    (tie.spec (λ c. search needs) (λ c κs. search needs) (λ c. search needs) (λ c. search needs)
+    (λ c. (search refusal-long, search refusal-left)))

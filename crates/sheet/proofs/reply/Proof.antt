@@ -8,6 +8,6 @@ use Rattle.sheet.proofs.reply.Tie as tie
 pub reply-spec : {M : Type 1} → statement M
 reply-spec =
     tie.close
-    (tie.spec (λ c. search needs) (λ c. search needs) (λ c κs. search needs) (λ c κs. search needs) (λ c κs. search needs)
+    (tie.spec (λ c. search needs) (λ c. search needs) (λ c κs. search needs) (λ c κs. search needs)
     (λ c. (search refused-long, search refused-left)) (λ c. search needs) (λ c. search count-within)
     (λ c. search entries-lent) (λ c κs. (search few-lent, search answer-room)) (λ c. (search answered-long, search answered-left)))

@@ -1,0 +1,4 @@
+-- The laws of sheets that are carried over.
+pub mod Converting
+pub mod Sheets
+pub mod Promises

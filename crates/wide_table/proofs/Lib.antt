@@ -1,0 +1,3 @@
+-- The laws of wide tables.
+pub mod Refusing
+pub mod Narrowing
