@@ -1,6 +1,7 @@
 # Runs a linked program that answers sheets, bench, counts or a converter, and compares what it prints and its exit status with the model:
 # from files, through a pipe in pieces that it must read one by one, on input longer than it can hold, on random and mutated input, and at a
-# terminal, where alone it says what it waits for, on standard error, before anything is typed.
+# terminal, where alone it says what it waits for, on standard error, before anything is typed; and to a device that takes no output, where it
+# says that.
 # Run: python3 tests/host/print_test.py PROGRAM, or with --control behind it for wrong programs, each of which a way must notice.
 # The status is 0, or 1 where something differs, is missing or goes unnoticed.
 import contextlib
@@ -143,6 +144,14 @@ def at_terminal(command, texts):
         yield text, process.returncode, printed, before + TYPING + said
 
 
+# Nothing can be written; what would have been is not known.
+def to_full_device(command, texts):
+    for text in texts:
+        with open("/dev/full", "wb") as full:
+            process = subprocess.run(command, input=text, stdout=full, stderr=subprocess.PIPE, timeout=LONGEST_RUN)
+        yield text, process.returncode, b"", process.stderr
+
+
 def mutated_texts(program):
     chance = random.Random(7)
     for _ in range(program.mutated_count):
@@ -161,8 +170,10 @@ WAYS = {
     "long": (from_files, lambda program: [program.sample * 200], lambda program: 1),
     "mutated": (from_files, mutated_texts, lambda program: program.mutated_count),
     "terminal": (at_terminal, typed_texts, lambda program: 4),
+    "full": (to_full_device, typed_texts, lambda program: 4),
 }
 TYPING = b"TYPING\n"
+NOT_WRITTEN = b"the output could not be written whole\n"
 
 
 def waiting(program):
@@ -173,10 +184,10 @@ def waiting(program):
 def compare(program, way, command, limit=None):
     run, texts, _ = WAYS[way]
     compared, differing = 0, []
-    wanted = waiting(program).encode() + TYPING if way == "terminal" else b""
+    wanted = {"terminal": waiting(program).encode() + TYPING, "full": NOT_WRITTEN}.get(way, b"")
     for text, status, printed, said in run(command, itertools.islice(texts(program), limit)):
         compared += 1
-        if (status, printed, said) != (0, program.answer(text), wanted):
+        if (status, printed, said) != (0, b"" if way == "full" else program.answer(text), wanted):
             differing.append(f"{way}: differs on {text[:80]!r}: status {status}, {printed[:60]!r}, {said[:60]!r}")
     return compared, differing
 
@@ -224,6 +235,7 @@ def wrong(program):
         ("what is said at a terminal, said when the input has ended", "terminal", 1, f'text=$(cat; echo .); {say}; {hand_on} | "$0"'),
         ("what is said at a terminal, said twice", "terminal", 4, f'{say}; "$0"'),
         ("a word where there is no terminal", "files", 20, 'echo waiting >&2; "$0"'),
+        ("silence where nothing can be written", "full", 4, '"$0" 2>/dev/null'),
         *(("the status", way, 20, '"$0"; exit 3') for way in WAYS),
         *(("a signal", way, 20, '"$0"; kill -KILL $$') for way in WAYS),
     ]

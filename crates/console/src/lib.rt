@@ -10,9 +10,12 @@ pub fn say_at_terminal(words: &[u8]) {
     }
 }
 
-// Writes the front of an output. A print is never longer than its array, which this tests once more instead of proving it here.
+// Writes the front of an output. A print is never longer than its array, which this tests once more instead of proving it here. Where not all
+// of it could be written, standard error says so: a program has no other status than 0.
 pub fn write_front(bytes: &[u8], length: usize) {
     if length <= bytes.len() {
-        io::write_all(STDOUT_FILENO, &bytes[..length]);
+        if !io::write_all(STDOUT_FILENO, &bytes[..length]) {
+            io::write_all(STDERR_FILENO, b"the output could not be written whole\n");
+        }
     }
 }

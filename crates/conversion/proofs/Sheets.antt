@@ -27,6 +27,7 @@ use Rattle.log_print.specs.Lines.{line-of, column-of}
 use Rattle.log_print.proofs.Lines.{line-long}
 use Rattle.log_print.proofs.Columns.{column-long}
 use Rattle.conversion.specs.Conversion.{sheet-lines}
+use Rattle.conversion.specs.Promises.{Legible}
 
 -- A SHEET IS ITS LINES
 module _ (edition : Edition) where
@@ -117,7 +118,7 @@ module _ (edition : Edition) where
 
 -- ITS LINES ARE READ BACK
 -- a case line ends in its line feed
-line-ended : (columns : ℕ) (numbers rest : List ℕ) → getD (line-of columns numbers ++ rest) (columns * length numbers) 0 ≡ 10
+pub line-ended : (columns : ℕ) (numbers rest : List ℕ) → getD (line-of columns numbers ++ rest) (columns * length numbers) 0 ≡ 10
 unfolding line-of
 line-ended columns [] rest = rw (mul-zero columns)
 line-ended columns (value ∷ numbers) rest =
@@ -131,10 +132,6 @@ line-ended columns (value ∷ numbers) rest =
     (line-ended columns numbers rest)
 
 -- in an edition whose largest number has room in its columns
-pub record Legible (edition : Edition) : Type 0 where
-  pub some : 0 < edition .columns
-  pub room : edition .most < 10 ^ edition .columns
-
 module _ (edition : Edition) (legible : Legible edition) where
   field-read : (value : ℕ) (rest : List ℕ) → value ≤ edition .most
       → field-of (edition .columns) (edition .most) (take (edition .columns) (printed (edition .columns) value ++ rest)) ≡ Number value

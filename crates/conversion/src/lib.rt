@@ -15,12 +15,9 @@ pub fn to_six_columns(input: &[u8], output: &mut [u8; 2048]) -> usize
     ensures { λ r. ⌜ r ≡ length (to-six-columns (now (input .entry))) ⌝ }
     ensures { λ _. ⌜ now (output .exit) ≡ in-front (to-six-columns (now (input .entry))) (now (output .entry)) ⌝ }
 {
-    convert(
-        input,
-        case_sheet::four_columns(),
-        case_sheet::six_columns(),
-        output,
-    )
+    let from = case_sheet::four_columns();
+    let to = case_sheet::six_columns();
+    convert(input, from, to, output)
 }
 
 // Carries a sheet of six columns over to four, likewise; or 1 alone, or 22 alone where a number is above 255.
@@ -28,12 +25,9 @@ pub fn to_four_columns(input: &[u8], output: &mut [u8; 2048]) -> usize
     ensures { λ r. ⌜ r ≡ length (to-four-columns (now (input .entry))) ⌝ }
     ensures { λ _. ⌜ now (output .exit) ≡ in-front (to-four-columns (now (input .entry))) (now (output .entry)) ⌝ }
 {
-    convert(
-        input,
-        case_sheet::six_columns(),
-        case_sheet::four_columns(),
-        output,
-    )
+    let from = case_sheet::six_columns();
+    let to = case_sheet::four_columns();
+    convert(input, from, to, output)
 }
 
 // The columns of both editions are few, so that lengths fit and the output is long enough: hence the `requires`.

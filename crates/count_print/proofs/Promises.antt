@@ -1,4 +1,4 @@
--- The proof of specs/Promises.antt.
+-- The promises of specs/Promises.antt, proved.
 use mathlib.Core.Path.{_≡_, refl}
 use mathlib.Core.Bool.{Bool, true, false, cond}
 use mathlib.Core.List.{List, [], _∷_, _++_, append-assoc}
@@ -10,11 +10,15 @@ use Rattle.refusals.specs.Checks.{Check, _when_, first-of}
 use Rattle.refusals.specs.Tests.{any-from}
 use Rattle.refusals.proofs.Tests.{all-below}
 use Rattle.lookup.specs.Call.{log-length}
+use Rattle.case_sheet.specs.Edition.{six-columns}
+use Rattle.case_sheet.specs.Sheet.{numbers-of, table-of}
+use Rattle.case_sheet.proofs.Promises.{front-answers}
+use Rattle.log_print.specs.Lines.{line-of}
 use Rattle.count_sheet.specs.declared.ProbePair.{ProbePair}
 use Rattle.count_sheet.specs.Refusals.{value-width, pair-checks, buffer-checks, sheet-checks, count-refusal}
 use Rattle.count_sheet.proofs.Places.{squared}
-use Rattle.count_print.specs.Print.{print-refusal}
-use Rattle.count_print.specs.Promises.{Lent-enough}
+use Rattle.count_print.specs.Print.{pair-read, print-refusal, reply, print}
+use Rattle.count_print.specs.Promises.{Lent-enough, Front-printed}
 use Rattle.count_print.proofs.Refusals.{width-small, side-most, log-small, scratch-small}
 
 -- where a list of checks lets all through, what stands behind it decides
@@ -51,3 +55,9 @@ lent-enough table p =
     (same-behind (pair-checks p table) _ _
     (λ e. third-and-fourth _ _ _ _ _ (le-ltb _ _ (scratch-small p table e)) (le-ltb 2400 (log-length (p .method) (p .n)) (omega (arith, log-small p table e)))
     (λ f. le-ltb _ _ (sheet-most p f))))
+
+pub front-printed : Front-printed
+unfolding Front-printed print
+front-printed input =
+    front-answers six-columns 6 input (omega arith) (omega arith)
+    (λ i. reply (pair-read (numbers-of six-columns 6 i)) (table-of six-columns 6 i)) (line-of 6 (1 ∷ []))

@@ -1,4 +1,4 @@
--- There is one way to write a number in columns: what is read is what is printed of it.
+-- There is one way to write a number in columns: what is read is what is printed of it, a promise of specs/Promises.antt, proved.
 use mathlib.Core.Path.{_≡_, refl, sym, ap, _∙_}
 use mathlib.Core.Bool.{Bool, true, false, _&&_, cond}
 use mathlib.Core.List.{List, [], _∷_, _++_, append-assoc, append-nil}

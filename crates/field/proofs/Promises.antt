@@ -1,4 +1,4 @@
--- The promise of specs/Promises.antt, proved.
+-- What is printed is read back: a promise of specs/Promises.antt, proved.
 use mathlib.Core.Path.{_≡_, refl, ap, _∙_}
 use mathlib.Core.Bool.{Bool, true, false, _&&_, cond}
 use mathlib.Core.List.{List, [], _∷_, _++_, append-assoc}

@@ -1,4 +1,4 @@
--- What is promised of numbers in columns. Each is a type; its proof stands in proofs/Promises.antt.
+-- What is promised of numbers in columns. Each is a type; its proof stands in proofs/.
 use mathlib.Core.Path.{_≡_}
 use mathlib.Core.List.{List}
 use Prim.Native.Nat.{ℕ, _^_, _≤_, _<_}

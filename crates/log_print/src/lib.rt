@@ -33,8 +33,8 @@ pub fn put_answer(output: &mut [u8], log: &[u32], share: u32, count: u32) -> usi
     last + 19
 }
 
-// A line for each entry: its position, counted from the first's, its kind and its value. Positions have room in their columns; so have the
-// kinds and values of an accepted case, which are below 256. Of a number of more than six digits the last six are printed.
+// A line for each entry: its position, counted from the first's, its kind and its value. All three have room in their columns: kinds and
+// values have 16 bits.
 fn put_entries(output: &mut [u8], log: &[u32], first: u32)
     requires { ⌜ (first + length (now log) ≤ 999999) × (19 * length (now log) ≤ length (now output)) ⌝ }
     ensures { λ _. ⌜ now (output .exit) ≡ written (now (output .entry)) 0 (entry-lines 6 first (now (log .entry))) ⌝ }

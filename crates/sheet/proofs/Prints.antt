@@ -20,7 +20,7 @@ use Rattle.log_print.specs.Lines.{line-of}
 use Rattle.sheet.specs.Print.{reply, print-in, print}
 
 -- what refuses a wide table is the case's refusal
-wide-case : (c : Case) (table : List ℕ) → (wide-refusal (c .method) (c .n) (c .m) table ≡ 0 → ⊥)
+pub wide-case : (c : Case) (table : List ℕ) → (wide-refusal (c .method) (c .n) (c .m) table ≡ 0 → ⊥)
     → wide-refusal (c .method) (c .n) (c .m) table ≡ case-refusal c table
 unfolding case-refusal case-checks box-checks method-checks method-and-table
 wide-case c table h = wide-first (c .method) (c .n) (c .m) table (mask-checks c) h

@@ -1,4 +1,4 @@
--- Numbers above 255, and the longest print: promises of specs/Promises.antt and specs/Wide.antt, proved.
+-- Numbers above 255, the longest print, and how much of the input decides: promises of specs/Promises.antt and specs/Wide.antt, proved.
 use mathlib.Core.Path.{_≡_, refl, sym, _∙_}
 use mathlib.Core.Bool.{Bool, true, false, _||_, cond, true≢false}
 use mathlib.Core.List.{List, [], _∷_}
@@ -19,6 +19,9 @@ use Rattle.table.specs.Fit.{occurs, each-value, equally-often, closed, fit}
 use Rattle.table.specs.Refusals.{table-checks, table-refusal}
 use Rattle.table.proofs.Balanced.{none-from}
 use Rattle.table.proofs.Refusals.{at-6}
+use Rattle.wide_table.specs.Wide.{wide}
+use Rattle.wide_table.specs.Promises.{Wide-six}
+use Rattle.wide_table.proofs.Promises.{wide-six}
 use Rattle.lookup.specs.declared.Case.{Case}
 use Rattle.lookup.specs.Case.{Q}
 use Rattle.lookup.specs.Methods.{among, found, known, method-of}
@@ -29,13 +32,15 @@ use Rattle.lookup.proofs.Accepted.{accepted, accepted-bounded}
 use Rattle.lookup.proofs.Sizes.{log-most}
 use Rattle.lookup.proofs.Promises.{taken-right, methods-known, log-long}
 use Rattle.case_sheet.specs.Edition.{six-columns}
+use Rattle.case_sheet.proofs.Promises.{front-answers}
 use Rattle.case_sheet.specs.Sheet.{numbers-of, table-of, well-formed, case-read}
 use Rattle.log_print.specs.Lines.{line-of, answer-lines}
 use Rattle.log_print.proofs.Lines.{line-long}
 use Rattle.log_print.proofs.Entries.{answer-long}
 use Rattle.sheet.specs.Print.{reply, print-in, print}
 use Rattle.sheet.specs.Wide.{Wide-worked}
-use Rattle.sheet.specs.Promises.{Wide-refused, Wide-entry, Print-most}
+use Rattle.sheet.specs.Promises.{Wide-refused, Wide-entry, Print-most, Front-printed}
+use Rattle.sheet.proofs.Prints.{wide-case}
 
 pub wide-worked : Wide-worked
 unfolding Wide-worked case-refusal case-checks box-checks method-checks mask-checks untaken first-of outside any-from at count-of occurs
@@ -73,12 +78,10 @@ wide-refused table c e =
     )
 
 pub wide-entry : Wide-entry
-unfolding Wide-entry case-refusal case-checks box-checks method-checks table-refusal
+unfolding Wide-entry Wide-six wide
 wide-entry table c some method input output long =
-    let most : 2 ^ c .m ≤ 2 ^ 8 = pow-mono (inside 1 8 (c .m) output .1) in
-    let large : any-from (2 ^ c .m) table ≡ true = any-less 256 (2 ^ c .m) table (omega arith) some in
-    let six : 6 ≡ first-of (box-checks c table) = goes 2 _ (rw method) (at-6 (c .n) (c .m) table input output long large) in
-    sym (stops-both (box-checks c table) (mask-checks c) six (λ z. omega arith))
+    let six = wide-six (c .method) (c .n) (c .m) table some method input output long in
+    sym (wide-case c table (λ z. omega (arith, six))) ∙ six
 
 -- a reply has a line, or a line for each entry of the log and one more
 reply-most : (c : Case) (table : List ℕ) → length (reply 6 c table) ≤ 43985
@@ -104,3 +107,9 @@ print-most input = print-most-by-cases (well-formed six-columns 10 input)
         → length (cond t (reply 6 (case-read (numbers-of six-columns 10 input)) (table-of six-columns 10 input)) (line-of 6 (1 ∷ []))) ≤ 43985
     print-most-by-cases true = reply-most _ _
     print-most-by-cases false = omega (arith, line-long 6 (1 ∷ []))
+
+pub front-printed : Front-printed
+unfolding Front-printed print print-in
+front-printed input =
+    front-answers six-columns 10 input (omega arith) (omega arith)
+    (λ i. reply 6 (case-read (numbers-of six-columns 10 i)) (table-of six-columns 10 i)) (line-of 6 (1 ∷ []))

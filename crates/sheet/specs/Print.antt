@@ -12,7 +12,7 @@ use Rattle.case_sheet.specs.Sheet.{numbers-of, table-of, well-formed, case-read
 use Rattle.log_print.specs.Lines.{line-of, answer-lines}
 
 -- a refused case: its number alone. Scratch and log are lent long enough for any case, and the scratch as zeros, so 13, 19 and 14 are
--- never printed: only the case is refused. A table entry above 255 is 2^m or more whatever m is, and so is 6 where none of 2 to 5 applies.
+-- never printed: only the case is refused. A table entry above 255 is 2^m or more for every m that 4 lets in, and so is 6 where none of 2 to 5 applies.
 unfoldable pub reply : (columns : ℕ) → Case → (table : List ℕ) → List ℕ
 reply columns c table =
     cond (eqb (case-refusal c table) 0) (answer-lines columns (log-of c table) (answer c table) (log-length (c .method) (c .n)))

@@ -3,7 +3,7 @@ use mathlib.Core.Path.{_≡_}
 use mathlib.Core.Bool.{true, false}
 use mathlib.Core.List.{List, [], _∷_}
 use Prim.Native.Nat.{ℕ, _^_, _≤_}
-use lib.ListN.{length}
+use lib.ListN.{length, take}
 use Rattle.refusals.specs.Tests.{outside, any-from}
 use Rattle.lookup.specs.declared.Case.{Case}
 use Rattle.lookup.specs.Methods.{known}
@@ -34,3 +34,7 @@ Wide-entry =
 -- the longest print
 unfoldable pub Print-most : Type 0
 Print-most = (input : List ℕ) → length (print input) ≤ 43985
+
+-- the first 4096 bytes of the input, which are all that the program reads, decide
+unfoldable pub Front-printed : Type 0
+Front-printed = (input : List ℕ) → print (take 4096 input) ≡ print input

@@ -9,7 +9,7 @@ use Rattle.lookup.specs.Refusals.{case-refusal}
 abbrev S : List ℕ
 S = 2 ∷ 0 ∷ 3 ∷ 1 ∷ []
 
--- the same of bytes that are cut
+-- S again, if its entries were cut to bytes
 abbrev wide : List ℕ
 wide = 2 ∷ 0 ∷ 3 ∷ 257 ∷ []
 
@@ -27,6 +27,8 @@ Wide-worked =
     ∷ case-refusal (case-from 2 2 2 0 1 2 3 256 2 0) S
     ∷ case-refusal (case-from 2 2 2 0 1 2 3 0 258 0) S
     ∷ case-refusal (case-from 2 2 2 0 1 2 3 0 2 256) S
+    ∷ case-refusal (case-from 3 2 2 0 1 2 3 0 2 257) S
+    ∷ case-refusal (case-from 5 2 2 0 1 2 3 0 256 0) S
     -- an entry, alone, at m = 8, and beside 2, 3, 4, 5, 7 and 10
     ∷ case-refusal (case-from 2 2 2 0 1 2 3 0 2 0) wide
     ∷ case-refusal (case-from 2 2 8 0 1 2 3 0 2 0) (2 ∷ 0 ∷ 3 ∷ 256 ∷ [])
@@ -37,4 +39,4 @@ Wide-worked =
     ∷ case-refusal (case-from 2 2 2 0 1 2 3 0 2 0) (2 ∷ 2 ∷ 3 ∷ 65535 ∷ [])
     ∷ case-refusal (case-from 2 2 2 4 1 2 3 0 2 0) wide
     ∷ []
-    ≡ 0 ∷ 2 ∷ 3 ∷ 4 ∷ 10 ∷ 10 ∷ 10 ∷ 11 ∷ 11 ∷ 10 ∷ 12 ∷ 6 ∷ 6 ∷ 2 ∷ 3 ∷ 4 ∷ 5 ∷ 6 ∷ 6 ∷ []
+    ≡ 0 ∷ 2 ∷ 3 ∷ 4 ∷ 10 ∷ 10 ∷ 10 ∷ 11 ∷ 11 ∷ 10 ∷ 12 ∷ 12 ∷ 10 ∷ 6 ∷ 6 ∷ 2 ∷ 3 ∷ 4 ∷ 5 ∷ 6 ∷ 6 ∷ []

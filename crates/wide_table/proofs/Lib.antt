@@ -1,3 +1,4 @@
 -- The laws of wide tables.
 pub mod Refusing
 pub mod Narrowing
+pub mod Promises

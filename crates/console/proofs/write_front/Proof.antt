@@ -12,4 +12,7 @@ front : (n : ℕ) (l : List ℕ) → n ≤ length l → n ≡ length (take n l)
 front n l h = sym (length-take-le n l h)
 
 pub write-front-spec : {M : Type 1} → statement M
-write-front-spec = tie.close (tie.spec (λ c. search front) (λ c κs. search needs) (λ c. search needs) (λ c. search needs))
+write-front-spec =
+    tie.close
+    (tie.spec (λ c. search front) (λ c κs. search needs) (λ c. search needs) (λ c κs. search needs) (λ c. search needs) (λ c. search needs)
+    (λ c. search needs))
