@@ -5,10 +5,10 @@ use mathlib.Core.List.{List, [], append-nil}
 use Prim.Native.Nat.{ℕ, zero, suc, _+_, _*_, _-_, _≤_, _<_}
 use native.Mathlib.Nat.{mul-le-mul}
 use native.Mathlib.Omega.{arith}
-use borrow.Author.Tests.{eq-eqb, ne-eqb, eqb-true, not-true, not-false}
+use borrow.Author.Tests.{eq-eqb, ne-eqb, eqb-true, leb-true, not-true, not-false}
 use mir.Syntax.{w64}
 use mir.Val.{Fits}
-use lib.Dec.{eqb}
+use lib.Dec.{eqb, leb}
 use lib.ListN.{length, getD, take, drop, replicate, length-drop, length-take, drop-of-length-le, List·getD-eq-default}
 use lib.Seq.{take-all, take-at}
 use Rattle.buffers.specs.Written.{in-front}
@@ -41,8 +41,8 @@ module _ (edition : Edition) (fields : ℕ) (input : List ℕ) where
   pub case-fits : edition .columns ≤ 256 → fields ≤ 256 → Fits w64 (edition .columns * fields)
   case-fits c f = record { fits = omega (arith, mul-le-mul c f) }
 
-  pub start-fits : edition .columns ≤ 256 → fields ≤ 256 → Fits w64 (edition .columns * fields + 1)
-  start-fits c f = record { fits = omega (arith, mul-le-mul c f) }
+  pub start-fits : (k : ℕ) → edition .columns ≤ 256 → fields ≤ 256 → leb k 256 ≡ true → Fits w64 (edition .columns * fields + k)
+  start-fits k c f h = record { fits = omega (arith, mul-le-mul c f, leb-true k 256 h) }
 
   -- INPUT WITHOUT A CASE LINE
   pub short-other : length input < edition .columns * fields + 1 → well-formed edition fields input ≡ false
@@ -195,11 +195,15 @@ pub few-entries : (edition : Edition) (rest : List ℕ) (room entries : ℕ) →
     → entries ≤ 256
 few-entries edition rest room entries l e = omega (arith, leading-most edition true room rest)
 
+-- the columns of an edition that a call handed back are few
+pub few-columns : (edition named : Edition) (most : ℕ) → edition ≡ named → leb (named .columns) most ≡ true → edition .columns ≤ most
+few-columns edition named most e h = rw e (leb-true _ _ h)
+
+pub some-columns : (edition named : Edition) → edition ≡ named → leb 1 (named .columns) ≡ true → 0 < edition .columns
+some-columns edition named e h = rw e (leb-true _ _ h)
+
 -- THE BENCH'S SHEET
 module _ (edition : Edition) (told : edition ≡ six-columns) where
-  pub six-few : edition .columns ≤ 256
-  six-few = rw told (omega arith)
-
   pub six-table : (input old now : List ℕ) → now ≡ in-front (table-of edition 10 input) old → now ≡ in-front (table-of six-columns 10 input) old
   six-table input old now e = e ∙ rw told
 

@@ -145,15 +145,6 @@ module _ (from to : Edition) (input : List ℕ) (s : Lines) (told : s ≡ lines-
       taken-left before now e = e ∙ ap (λ l. in-front l before) taken
 
 -- EACH WAY
--- the editions that the calls handed back: their columns are few
-pub to-six-few : (from to : Edition) → from ≡ four-columns → to ≡ six-columns
-    → (from .columns ≤ 256) × (0 < to .columns) × (to .columns ≤ 6)
-to-six-few from to old new = rw (old, new) (omega arith, omega arith, omega arith)
-
-pub to-four-few : (from to : Edition) → from ≡ six-columns → to ≡ four-columns
-    → (from .columns ≤ 256) × (0 < to .columns) × (to .columns ≤ 6)
-to-four-few from to new old = rw (new, old) (omega arith, omega arith, omega arith)
-
 module _ (from to : Edition) (input : List ℕ) where
   module _ (old : from ≡ four-columns) (new : to ≡ six-columns) where
     to-six : converted from to input ≡ to-six-columns input

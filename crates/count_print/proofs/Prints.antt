@@ -7,7 +7,7 @@ use native.Mathlib.Omega.{arith}
 use borrow.Author.Tests.{ne-eqb}
 use lib.Dec.{leb}
 use lib.ListN.{length, take, replicate}
-use Rattle.refusals.specs.Checks.{_when_, first-of}
+use Rattle.refusals.specs.Checks.{Check, _when_, first-of}
 use Rattle.buffers.specs.Written.{in-front}
 use Rattle.wide_table.specs.Wide.{wide, method-and-table, wide-refusal}
 use Rattle.wide_table.proofs.Refusing.{none-wide, wide-first}
@@ -19,20 +19,21 @@ use Rattle.case_sheet.specs.Sheet.{numbers-of, table-of, well-formed, lines-of}
 use Rattle.case_sheet.proofs.Sheets.{read-malformed, read-formed, numbers-read, table-lent, entries-few, entries-lent, entries-within}
 use Rattle.log_print.specs.Lines.{line-of}
 use Rattle.count_sheet.specs.declared.ProbePair.{ProbePair}
-use Rattle.count_sheet.specs.Refusals.{pair-checks, buffer-checks, sheet-checks, count-refusal}
+use Rattle.count_sheet.specs.Refusals.{pair-checks, count-refusal}
 use Rattle.count_print.specs.Print.{pair-read, print-refusal, reply, print}
+
+-- 2 to 7, and what stands behind them in the list of checks
+checks-behind : (p : ProbePair) (table : List ℕ) (lent sheet : List Check)
+    → method-and-table (p .method) (p .n) (p .m) table ++ (10 when (leb (2 ^ p .n) (p .secret)) ∷ [] ++ (lent ++ sheet))
+    ≡ (pair-checks p table ++ lent) ++ sheet
+unfolding pair-checks method-and-table
+checks-behind p table lent sheet = simp append-assoc
 
 -- what refuses a wide table is the print's refusal
 wide-pair : (p : ProbePair) (table : List ℕ) → (wide-refusal (p .method) (p .n) (p .m) table ≡ 0 → ⊥)
     → wide-refusal (p .method) (p .n) (p .m) table ≡ print-refusal p table
-unfolding print-refusal count-refusal pair-checks method-and-table
-wide-pair p table h =
-    let secret = 10 when (leb (2 ^ p .n) (p .secret)) ∷ [] in
-    let lent = buffer-checks p (replicate 512 0) (replicate 2400 0) in
-    let sheet = sheet-checks p (replicate 64 0) in
-    let whole : method-and-table (p .method) (p .n) (p .m) table ++ (secret ++ (lent ++ sheet)) ≡ (pair-checks p table ++ lent) ++ sheet
-    = simp append-assoc in
-    wide-first (p .method) (p .n) (p .m) table (secret ++ (lent ++ sheet)) h ∙ ap first-of whole
+unfolding print-refusal count-refusal
+wide-pair p table h = wide-first (p .method) (p .n) (p .m) table _ h ∙ ap first-of (checks-behind p table _ _)
 
 refusal-line : (p : ProbePair) (table : List ℕ) (k : ℕ) → (k ≡ 0 → ⊥) → k ≡ print-refusal p table → line-of 6 (k ∷ []) ≡ reply p table
 unfolding reply
