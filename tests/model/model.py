@@ -2,7 +2,8 @@
 # What a call does once it is accepted is in methods.py, the form of a sheet in editions.py.
 # docs/REFERENCE.md says the same in words.
 # It shares nothing with the proved code, so that a test which compares the two can find a fault in either.
-# Numbers are integers from 0 on; a table, a scratch buffer and rows are lists of bytes; a log is a list of 32-bit entries.
+# Numbers are integers from 0 on; a scratch buffer and rows are lists of bytes, a table too, but that a sheet's may have larger entries; a log is
+# a list of 32-bit entries.
 import itertools
 from collections import Counter, namedtuple
 
@@ -240,7 +241,8 @@ def pair_counts(table, method, n, m, secret, i, j):
     return Counter(zip(shown[i], shown[j]))
 
 
-# The bench print: what the program writes for an input. A table entry above 255 is no byte, and too large for every m.
+# The bench print: what the program writes for an input. A table entry above 255 is no byte, and too large for every m that is
+# let in.
 def bench(text):
     sheet = editions.read_sheet(editions.NEW, text, Case)
     if sheet is None:
