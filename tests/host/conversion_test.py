@@ -44,17 +44,30 @@ def compare(folder, pipe, script, limit=None):
     return len(numbers), differing
 
 
-def test(folder):
+def test(folder, script=RIGHT, limit=None):
     for pipe in PIPES:
-        compared, differing = compare(folder, pipe, RIGHT)
+        compared, differing = compare(folder, pipe, script, limit)
         print(f"{pipe[0]} and {pipe[1]}: {compared} sheets, {len(differing)} differ")
         yield from differing[:5]
         if compared != SHEETS:
-            yield f"{SHEETS} sheets are wanted"
+            yield f"{pipe[0]} and {pipe[1]}: {SHEETS} sheets are wanted"
+
+
+# The test itself must complain, of each pipe, about a wrong one and about too few sheets.
+def silent_pipes(folder):
+    if [pipe[:2] for pipe in PIPES] != [("to_six_columns", "to_four_columns"), ("to_four_columns", "to_six_columns"), ("to_six_columns", "bench")]:
+        yield "other pipes are tried"
+    complaints = list(test(folder, "cat >/dev/null; echo wrong", 1))
+    for first, second, *_ in PIPES:
+        if not any(complaint.startswith(f"{first} and {second} differ") for complaint in complaints):
+            yield f"the test says nothing of a wrong pipe of {first} and {second}"
+        if f"{first} and {second}: {SHEETS} sheets are wanted" not in complaints:
+            yield f"the test says nothing of too few sheets for {first} and {second}"
 
 
 # What differs must be the wrong pipe's doing, so the right one must not.
 def control(folder):
+    yield from silent_pipes(folder)
     for pipe in PIPES:
         for script in (RIGHT, *WRONG):
             compared, differing = compare(folder, pipe, script, FEW)

@@ -202,10 +202,10 @@ def wrong_examples(program):
             yield f"{path.name} is refused"
 
 
-def test(program, file):
+def test(program, command, limit=None):
     yield from wrong_examples(program)
     for way, (_, _, count) in WAYS.items():
-        compared, differing = compare(program, way, [file])
+        compared, differing = compare(program, way, command, limit)
         print(f"{way}: {compared} inputs, {len(differing)} differ")
         yield from differing[:5]
         if compared != count(program):
@@ -241,8 +241,19 @@ def wrong(program):
     ]
 
 
+# The test itself must complain, of each way, about a program that writes the same always, and about too few inputs.
+def silent_ways(program, file):
+    complaints = list(test(program, ["/bin/sh", "-c", "cat >/dev/null; echo wrong", file], 1))
+    for way, (_, _, count) in WAYS.items():
+        if not any(complaint.startswith(f"{way}: differs") for complaint in complaints):
+            yield f"{way}: the test says nothing of a wrong program"
+        if count(program) > 1 and f"{way}: {count(program)} inputs are wanted" not in complaints:
+            yield f"{way}: the test says nothing of too few inputs"
+
+
 # What differs must be the wrong programs' doing, so the right one must not.
 def control(program, file):
+    yield from silent_ways(program, file)
     compared, differing = compare(program, "files", [file], 20)
     if compared != 20 or differing:
         yield "files: the right program differs"
@@ -256,7 +267,7 @@ def control(program, file):
 def main():
     file = os.path.abspath(sys.argv[1])
     program = PROGRAMS[os.path.basename(file)]
-    found = list(control(program, file) if sys.argv[2:] == ["--control"] else test(program, file))
+    found = list(control(program, file) if sys.argv[2:] == ["--control"] else test(program, [file]))
     for complaint in found:
         print(complaint)
     sys.exit(1 if found else 0)

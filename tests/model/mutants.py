@@ -7,8 +7,10 @@ from pathlib import Path
 import chain
 import chain_cases
 import check
+import check_conversion
 import check_leaks
 import check_methods
+import check_print
 import check_selection
 import conversion
 import conversion_sheets
@@ -117,6 +119,11 @@ GROUPS = (
     *((selection, "run", getattr(check_selection, group), pieces) for group, pieces in ALONE.items()),
     (methods, "run_method_5", check_leaks.leaking, LEAKING),
     (methods, "recomputed", check_methods.by_hand, METHODS["recomputed"]),
+    (editions, "print_line", check_print.sample, [("columns=NEW", "columns=OLD")]),
+    (editions, "read_sheet", check_print.forms, [("> 256", "> 257"), ("> 256", "> 255")]),
+    (conversion, "converted", check_conversion.sample, [("sheet(target", "sheet(source"), ("print_line(1)", "print_line(22)")]),
+    (conversion, "converted", check_conversion.refused_elsewhere, [("> target.largest", "> 98"), ("case, table)", "case, table[:4])")]),
+    (conversion, "converted", check_conversion.round_trips, [("case, table)", "case, table[:1])"), ("> target", "< target")]),
 )
 
 

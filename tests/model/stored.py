@@ -24,15 +24,29 @@ import small_cases
 CRATES = Path(__file__).resolve().parents[2] / "crates"
 
 
+# How many cases the programs have: that some are left out is noticed here alone.
+CASES = {
+    **{"test_small_calls": 1377, "test_logged_calls": 967, "test_chained_calls": 1184, "test_selections": 6060, "test_count_sheets": 1584},
+    **{"test_frames": 91, "test_screening": 310, "test_case_sheets": 1069, "test_conversions": 1222, "test_count_prints": 524},
+}
+
+
+def require_all(name, cases):
+    if len(cases) != CASES[name]:
+        raise ValueError(f"{name} has {len(cases)} cases, not {CASES[name]}")
+
+
 # The records of a test program's cases, and its answers, a line of numbers each.
 def program_files(name, module):
     cases = list(module.cases())
+    require_all(name, cases)
     lines = [" ".join(map(str, module.answer(case))) + "\n" for case in cases]
     return {f"{name}/data/cases": b"".join(map(module.record, cases)), f"{name}/stdout": "".join(lines).encode()}
 
 
 # The inputs of a print, and what it makes of them. A record is an input's length as two little-endian bytes, and its bytes.
 def print_files(name, texts, printed):
+    require_all(name, texts)
     records = [struct.pack("<H", len(text)) + text for text in texts]
     return {f"{name}/data/cases": b"".join(records), f"{name}/stdout": b"".join(map(printed, texts))}
 
