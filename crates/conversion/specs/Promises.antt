@@ -1,4 +1,4 @@
--- What is promised of sheets that are carried over. Each is a type; its proof stands in proofs/Promises.antt.
+-- What is promised of sheets that are carried over. Each is a type; its proof stands in proofs/.
 use mathlib.Core.Path.{_≡_}
 use mathlib.Core.Bool.{Bool, true, false, cond}
 use mathlib.Core.List.{List, _++_}

@@ -1,7 +1,7 @@
 // Case sheets carried over from one edition to another, each way.
 ghost use mathlib.Core.Path.{_≡_};
 ghost use mathlib.Core.List.{[], _∷_, _++_};
-ghost use Prim.Native.Nat.{_+_, _*_, _≤_, _<_};
+ghost use Prim.Native.Nat.{_+_, _≤_, _<_};
 ghost use lib.ListN.{length};
 ghost use Rattle.refusals.specs.Checks.{_when_, first-of};
 ghost use Rattle.refusals.specs.Tests.{any-from};

@@ -1,23 +1,16 @@
 -- The promises of specs/Promises.antt, proved.
 use mathlib.Core.Path.{_≡_, refl, sym}
 use mathlib.Core.Bool.{Bool, true, false, not}
-use mathlib.Core.List.{List, [], _∷_}
-use Prim.Native.Nat.{ℕ, _^_, _≤_}
+use mathlib.Core.List.{[], _∷_}
+use Prim.Native.Nat.{_^_, _≤_}
 use native.Mathlib.Omega.{arith}
-use lib.Pow.{pow-mono}
 use Rattle.refusals.specs.Checks.{_when_, first-of}
 use Rattle.refusals.specs.Tests.{outside, any-from}
-use Rattle.refusals.proofs.Tests.{any-less, inside}
+use Rattle.refusals.proofs.Tests.{inside}
 use Rattle.table.specs.Refusals.{table-checks}
 use Rattle.wide_table.specs.Wide.{wide, method-and-table, wide-refusal}
 use Rattle.wide_table.specs.Promises.{Wide-two-to-six, Wide-six}
-use Rattle.wide_table.proofs.Refusing.{at-6}
-
--- where 4 does not apply, a wide table has an entry of 2^m or more
-too-large : (m : ℕ) (table : List ℕ) → any-from 256 table ≡ true → outside 1 8 m ≡ false → any-from (2 ^ m) table ≡ true
-too-large m table w e =
-    let most : 2 ^ m ≤ 2 ^ 8 = pow-mono (inside 1 8 m e .1) in
-    any-less 256 (2 ^ m) table (omega arith) w
+use Rattle.wide_table.proofs.Refusing.{too-large, at-6}
 
 -- the checks 2 to 7, of which 6 applies where 4 does not
 two-to-six : (k a b l s f : Bool) → (b ≡ false → s ≡ true)
@@ -32,7 +25,7 @@ two-to-six false false false false s f h = rw (h refl) (omega arith, omega arith
 
 pub wide-two-to-six : Wide-two-to-six
 unfolding Wide-two-to-six wide-refusal wide method-and-table table-checks
-wide-two-to-six method n m table = (λ w. rw w (two-to-six _ _ (outside 1 8 m) _ (any-from (2 ^ m) table) _ (too-large m table w)), λ w. rw w)
+wide-two-to-six method n m table = (λ w. rw w (two-to-six _ _ (outside 1 8 m) _ (any-from (2 ^ m) table) _ (λ e. too-large m table (inside 1 8 m e .1) w)), λ w. rw w)
 
 pub wide-six : Wide-six
 unfolding Wide-six wide

@@ -17,6 +17,12 @@ use Rattle.table.proofs.Balanced.{none-from}
 use Rattle.lookup.specs.Methods.{known}
 use Rattle.wide_table.specs.Wide.{wide, method-and-table, wide-refusal}
 
+-- an entry above 255 is 2^m or more for every m that 4 lets in
+pub too-large : (m : ℕ) (table : List ℕ) → m ≤ 8 → any-from 256 table ≡ true → any-from (2 ^ m) table ≡ true
+too-large m table h w =
+    let most : 2 ^ m ≤ 2 ^ 8 = pow-mono h in
+    any-less 256 (2 ^ m) table (omega arith) w
+
 -- a width that is let in leaves room for a shift
 pub power-known : (n : ℕ) (t : Bool) → t ≡ outside 1 8 n → t ≡ false → n < 32
 power-known n t e h = omega (arith, inside 1 8 n (sym e ∙ h) .1)
@@ -57,10 +63,9 @@ module _ (method n m : ℕ) (table : List ℕ) (w : Bool) (looked : w ≡ any-fr
 
             pub at-6 : length table ≡ size → 6 ≡ wide-refusal method n m table
             at-6 h =
-                let most : 2 ^ m ≤ 2 ^ 8 = pow-mono (inside 1 8 m (sym output ∙ narrow-out) .1) in
                 behind-2
                 (table-6 n m table (sym input ∙ narrow-in) (sym output ∙ narrow-out) (h ∙ power)
-                (any-less 256 (2 ^ m) table (omega arith) is-wide))
+                (too-large m table (inside 1 8 m (sym output ∙ narrow-out) .1) is-wide))
 
 -- FOR THE CALLERS
 module _ (method n m : ℕ) (table : List ℕ) where
@@ -73,8 +78,7 @@ module _ (method n m : ℕ) (table : List ℕ) where
       none-wide-by-cases false q z = refl
       none-wide-by-cases true q z =
           let known-table = table-accepted n m table (passed _ 1 _ z .1) in
-          let most : 2 ^ m ≤ 2 ^ 8 = pow-mono (known-table .output-most) in
-          sym (any-less 256 (2 ^ m) table (omega arith) q) ∙ none-from (2 ^ m) table (known-table .small)
+          sym (too-large m table (known-table .output-most) q) ∙ none-from (2 ^ m) table (known-table .small)
 
   -- what refuses a wide table is what the list of checks refuses it with, whatever stands behind 7
   pub wide-first : (behind : List Check) → (wide-refusal method n m table ≡ 0 → ⊥)
