@@ -1,5 +1,7 @@
 // The steps of FIPS 197 that act on each share by itself: row shifting, column mixing, key addition, and the words of the next round key;
 // and states read from bytes. A share is four columns of four bytes. No branch and no index depends on a byte.
+#![tactic(auto)]
+
 ghost use Rattle.std.specs.Prelude.{◌≡◌, ◌+◌, ◌<◌, length};
 ghost use Rattle.sbox.specs.Field.{times};
 ghost use Rattle.aes.specs.State.{word_from as state_word_from, state_from as state_state_from, add_words};

@@ -1,4 +1,6 @@
 // Prints the log of the case sheet on standard input, or the number of its refusal.
+#![tactic(auto)]
+
 use libc::STDIN_FILENO;
 
 fn write_print(output: &[u8; 45056], length: usize) {

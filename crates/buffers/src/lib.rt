@@ -1,4 +1,6 @@
 // What a lent buffer holds once something was written to it, and the calls that clear one. The laws of writing stand in proofs/.
+#![tactic(auto)]
+
 ghost use Rattle.std.specs.Prelude.{◌≡◌, length, replicate};
 
 // Sets the whole buffer to zero. What an earlier call left in it is gone, and a later call takes it for clean scratch.

@@ -1,4 +1,6 @@
 // The refusals of the logged and the plain call, each list of checks in its order, in the parts that a chain takes one by one.
+#![tactic(auto)]
+
 ghost use Rattle.std.specs.Prelude.{◌≡◌, cond, ◌≤◌, leb, length};
 ghost use Rattle.refusals.specs.Checks.{first_of};
 ghost use Rattle.lookup.specs.Refusals.{mask_checks, scratch_checks, box_checks, other_checks, untaken as refusals_untaken, dirty as refusals_dirty};

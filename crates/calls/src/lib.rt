@@ -1,4 +1,6 @@
 // The logged and the plain call: masked table lookup on three shares, under one of the methods 2, 3 and 5.
+#![tactic(auto)]
+
 ghost use Rattle.std.specs.Prelude.{◌≡◌};
 ghost use Rattle.lookup.specs.Refusals.{logged_refusal};
 ghost use Rattle.calls.specs.Reply.{case_from, plain_reply, plain_scratch, logged_reply, logged_scratch, logged_log};

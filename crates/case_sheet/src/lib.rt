@@ -1,5 +1,7 @@
 // Reading a case sheet: a line of fields, each a number in its columns, then lines of one field, a table's entries. The edition says how many
 // columns there are, and the largest number.
+#![tactic(auto)]
+
 ghost use Rattle.std.specs.Prelude.{◌≡◌, ◌*◌, ◌≤◌, ◌<◌, length};
 ghost use Rattle.buffers.specs.Written.{in_front};
 ghost use Rattle.case_sheet.specs.Edition.{four_columns as edition_four_columns, six_columns as edition_six_columns};
@@ -11,7 +13,7 @@ use field::Field;
 use lookup::Case;
 
 // A case sheet that was read: whether it is malformed, its case, and how many table entries it has.
-#[derive(Drop)]
+#[derive(Clone, Copy)]
 pub struct Sheet {
     pub malformed: bool,
     pub case: Case,
@@ -19,14 +21,14 @@ pub struct Sheet {
 }
 
 // What stands on a sheet: whether it is malformed, and how many table entries it has.
-#[derive(Drop)]
+#[derive(Clone, Copy)]
 pub struct Lines {
     pub malformed: bool,
     pub entries: usize,
 }
 
 // An edition of the sheets: how many columns a number has, and the largest number.
-#[derive(Drop)]
+#[derive(Clone, Copy)]
 pub struct Edition {
     pub columns: usize,
     pub most: u16,

@@ -1,5 +1,7 @@
 // Two lookups in a row, each with every value that it handles in a log of its own. The first's output shares go straight into the second:
 // its answer is the second's x0, and its output masks s1 and s2 are the second's r1 and r2. What the first looks up is never joined.
+#![tactic(auto)]
+
 ghost use Rattle.std.specs.Prelude.{◌≡◌};
 ghost use Rattle.lookup.specs.Refusals.{logged_refusal};
 ghost use Rattle.calls.specs.Reply.{logged_reply, logged_scratch, logged_log};
@@ -10,7 +12,7 @@ ghost use Rattle.chain.specs.Chain.{chain_first_scratch, chain_second_scratch, c
 use lookup::{Called, Case};
 
 // What the second call has of its own: its method and widths, its output masks, r3 and b.
-#[derive(Drop)]
+#[derive(Clone, Copy)]
 pub struct Second {
     pub method: u32,
     pub n: u32,
@@ -22,7 +24,7 @@ pub struct Second {
 }
 
 // What a chained call hands back: its refusal, the second call's answer share, and the counts of both logs' entries.
-#[derive(Drop)]
+#[derive(Clone, Copy)]
 pub struct Chained {
     pub refusal: u32,
     pub share: u32,

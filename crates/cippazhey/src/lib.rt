@@ -1,5 +1,7 @@
 // What C links: the plain call as one 16-bit number, refusal × 256 + share, the choice of one half of a word, the clearing of a buffer, a
 // frame of AES-128, and the screening of a run of random bytes. include/cippazhey.h declares all five.
+#![tactic(auto)]
+
 ghost use Rattle.std.specs.Prelude.{◌≡◌, length, replicate};
 ghost use Rattle.calls.specs.Reply.{case_from, plain_reply, plain_scratch};
 ghost use Rattle.selection.specs.Select.{selection_from, plain_select_refusal, plain_select_share};

@@ -1,4 +1,6 @@
 // What the programs share at a console: words to whoever types, and the front of an output.
+#![tactic(auto)]
+
 use libc::{STDERR_FILENO, STDIN_FILENO, STDOUT_FILENO};
 
 // Someone at a terminal is told what is waited for. Nobody else is.

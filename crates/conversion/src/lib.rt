@@ -1,4 +1,6 @@
 // Case sheets carried over from one edition to another, each way.
+#![tactic(auto)]
+
 ghost use Rattle.std.specs.Prelude.{◌≡◌, [], ◌∷◌, ◌++◌, ◌+◌, ◌≤◌, ◌<◌, length};
 ghost use Rattle.refusals.specs.Checks.{◌when◌, first_of};
 ghost use Rattle.refusals.specs.Tests.{any_from};

@@ -1,4 +1,6 @@
 // The count print: what the program answers to a probe sheet.
+#![tactic(auto)]
+
 ghost use Rattle.std.specs.Prelude.{◌≡◌, length};
 ghost use Rattle.buffers.specs.Written.{in_front};
 ghost use Rattle.count_print.specs.Print.{print as print_print, reply as print_reply, pair_read};

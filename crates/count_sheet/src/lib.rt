@@ -1,4 +1,6 @@
 // The count sheet: how often two positions of a log show each pair of values, over every choice of masks.
+#![tactic(auto)]
+
 ghost use Rattle.std.specs.Prelude.{◌≡◌, length, replicate, max, ◌*◌, ◌^◌, ◌≤◌};
 ghost use Rattle.lookup.specs.Call.{log_length as call_log_length, scratch_length as call_scratch_length};
 ghost use Rattle.count_sheet.specs.Refusals.{value_width, count_refusal};
@@ -9,7 +11,7 @@ mod checks;
 mod choices;
 
 // What is probed: a method's log for a secret, at two positions.
-#[derive(Drop)]
+#[derive(Clone, Copy)]
 pub struct ProbePair {
     pub method: u32,
     pub n: u32,

@@ -1,4 +1,6 @@
 // Prints the counts that the probe sheet on standard input asks for, or the number of its refusal.
+#![tactic(auto)]
+
 use libc::STDIN_FILENO;
 
 fn write_print(output: &[u8; 1024], length: usize) {

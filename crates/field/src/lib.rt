@@ -1,4 +1,6 @@
 // Numbers in columns: a field is read to a number, and a number is printed.
+#![tactic(auto)]
+
 ghost use Rattle.std.specs.Prelude.{◌≡◌, ◌+◌, ◌≤◌, ◌<◌, length};
 ghost use Rattle.buffers.specs.Written.{written};
 ghost use Rattle.field.specs.Field.{digit as field_digit, decimal as field_decimal, number as field_number};
@@ -6,7 +8,7 @@ ghost use Rattle.field.specs.Field.{spaces as field_spaces, up_to, field_of};
 ghost use Rattle.field.specs.Printed.{mark as printed_mark, front, printed};
 
 // What reading a field finds: its number, or that it is of another form.
-#[derive(Drop)]
+#[derive(Clone, Copy)]
 pub enum Field {
     Number(u16),
     Malformed,

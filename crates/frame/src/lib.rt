@@ -1,4 +1,6 @@
 // One block encrypted by FIPS 197 under a key of 128 bits, with key and state in three shares.
+#![tactic(auto)]
+
 ghost use Rattle.std.specs.Prelude.{◌≡◌, ◌≤◌, length};
 ghost use Rattle.frame_lookups.specs.Scratch.{cleared};
 ghost use Rattle.frame_rounds.specs.Rounds.{frame_shares};
@@ -7,7 +9,7 @@ ghost use Rattle.frame.specs.Frame.{frame_refusal, flat as frame_flat, frame_rep
 use screening::Report;
 
 // What a frame hands back: its refusal, and the three shares' bytes, column by column.
-#[derive(Drop)]
+#[derive(Clone, Copy)]
 pub struct Encrypted {
     pub refusal: u32,
     pub share1: [u8; 16],

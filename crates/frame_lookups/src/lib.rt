@@ -1,5 +1,7 @@
 // A frame's lookups: of a byte, a word and a state. Each begins with cleared scratch. The frame has measured its buffers, so these have a
 // `requires`. The random bytes of a lookup begin at `p`, and the next lookup's are the three behind them.
+#![tactic(auto)]
+
 ghost use Rattle.std.specs.Prelude.{◌≡◌, ◌+◌, ◌*◌, ◌^◌, ◌≤◌, ◌<◌, length};
 ghost use Rattle.sbox.specs.Sbox.{sbox};
 ghost use Rattle.lookup.specs.Bounded.{Bounded};

@@ -1,4 +1,6 @@
 // The rounds of a frame, in three shares. The frame has measured its buffers, so these have a `requires`.
+#![tactic(auto)]
+
 ghost use Rattle.std.specs.Prelude.{◌≡◌, ◌≤◌, ◌<◌, length};
 ghost use Rattle.sbox.specs.Sbox.{sbox};
 ghost use Rattle.frame_lookups.specs.Scratch.{cleared};

@@ -1,5 +1,7 @@
 // One half of a word chosen by a bit, both in three shares: the half, the place that the bit's shares give it in the registers, and the run.
 // The checks have been made, so every function has a `requires`.
+#![tactic(auto)]
+
 ghost use Rattle.std.specs.Prelude.{◌≡◌, ◌*◌, ◌^◌, ◌≤◌, ◌<◌};
 ghost use Rattle.halves.specs.Bounded.{Bounded};
 ghost use Rattle.halves.specs.Halves.{half as halves_half, c3};
@@ -10,7 +12,7 @@ pub use registers::run;
 
 // The word's width in bits is twice this width. z0 joined with the masks z1 and z2 is the word, c0 joined with c1 and c2 the bit; t1, t2 and b
 // are masks that the choice itself uses.
-#[derive(Drop)]
+#[derive(Clone, Copy)]
 pub struct Selection {
     pub width: u32,
     pub z0: u32,

@@ -1,4 +1,6 @@
 // The linear layer on three shares: a matrix of bits applied to each share, and a constant added to the first.
+#![tactic(auto)]
+
 ghost use Rattle.std.specs.Prelude.{◌≡◌, ◌≤◌, length};
 ghost use Rattle.linear.specs.Layer.{layer, layer_refusal as layer_layer_refusal, mapped as layer_mapped};
 

@@ -1,4 +1,6 @@
 // Log entries: written and taken apart. Nothing here knows a method: a method hands over the kinds and the values of a part.
+#![tactic(auto)]
+
 ghost use Rattle.std.specs.Prelude.{◌≡◌, ◌+◌, ◌≤◌, length};
 ghost use Rattle.buffers.specs.Written.{written};
 ghost use Rattle.lookup.specs.Entry.{entry as entry_entry, kind_of, value_of};

@@ -1,5 +1,7 @@
 // The page of a log: lines of five entries, a line for each kind that occurs, and the total. The caller's output is long enough for it, and
 // kinds are known, so the functions here have a `requires`.
+#![tactic(auto)]
+
 ghost use Rattle.std.specs.Prelude.{◌≡◌, false, map, ◌+◌, ◌*◌, ◌-◌, ◌≤◌, ◌<◌, length, replicate};
 ghost use Rattle.refusals.specs.Tests.{any_from};
 ghost use Rattle.buffers.specs.Written.{written, in_front};

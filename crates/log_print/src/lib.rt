@@ -1,5 +1,7 @@
 // Printing lines of numbers: a log with its answer, a refusal, a count sheet, and the lines of a case sheet. The caller's output is long enough
 // for what is printed, so the functions here have a `requires`.
+#![tactic(auto)]
+
 ghost use Rattle.std.specs.Prelude.{◌≡◌, [], ◌∷◌, ◌+◌, ◌*◌, ◌≤◌, ◌<◌, length};
 ghost use Rattle.buffers.specs.Written.{written, in_front};
 ghost use Rattle.lookup.specs.Entry.{kind_of, value_of};

@@ -1,10 +1,12 @@
 // A masked table lookup's numbers, and the masked entry that methods 2 and 3 make. Their definitions stand in specs/.
+#![tactic(auto)]
+
 ghost use Rattle.std.specs.Prelude.{◌≡◌, ◌^◌, ◌<◌, length, get_or, set};
 ghost use Rattle.bits.specs.Xor.{◌⊕◌};
 ghost use Rattle.lookup.specs.Bounded.{Bounded};
 ghost use Rattle.lookup.specs.Row.{masked};
 
-#[derive(Drop)]
+#[derive(Clone, Copy)]
 pub struct Case {
     pub method: u32,
     pub n: u32,
@@ -19,7 +21,7 @@ pub struct Case {
 }
 
 // What a call hands back: its refusal, the answer share, and the count of log entries.
-#[derive(Drop)]
+#[derive(Clone, Copy)]
 pub struct Called {
     pub refusal: u32,
     pub share: u32,

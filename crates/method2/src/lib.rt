@@ -1,5 +1,7 @@
 // Method 2: the table is copied to the scratch, masked and in another order, and the answer is read there.
 // The calls have checked the case and measured the buffers, so the runs have a `requires`.
+#![tactic(auto)]
+
 ghost use Rattle.std.specs.Prelude.{◌≡◌, ◌^◌, ◌≤◌, ◌<◌, length};
 ghost use Rattle.lookup.specs.Case.{Q};
 ghost use Rattle.lookup.specs.Bounded.{Bounded};

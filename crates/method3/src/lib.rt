@@ -1,5 +1,7 @@
 // Method 3: the scratch says, masked by the bit b, which turn's entry is kept, and the answer is read from register b.
 // The calls have checked the case and measured the buffers, so the runs have a `requires`.
+#![tactic(auto)]
+
 ghost use Rattle.std.specs.Prelude.{◌≡◌, [], ◌∷◌, ◌^◌, ◌≤◌, ◌<◌, length, take};
 ghost use Rattle.lookup.specs.Case.{Q};
 ghost use Rattle.lookup.specs.Bounded.{Bounded};

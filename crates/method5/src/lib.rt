@@ -1,6 +1,8 @@
 // Method 5, of Schramm and Paar: the table is copied to the first half of the scratch, under one mask of its index and one of its entries,
 // from there to the second half under the others, and the answer is read there.
 // The calls have checked the case and measured the buffers, so the runs have a `requires`.
+#![tactic(auto)]
+
 ghost use Rattle.std.specs.Prelude.{◌≡◌, ◌+◌, ◌*◌, ◌^◌, ◌≤◌, ◌<◌, length, get_or};
 ghost use Rattle.bits.specs.Xor.{◌⊕◌};
 ghost use Rattle.buffers.specs.Written.{written};

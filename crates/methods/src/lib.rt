@@ -1,5 +1,7 @@
 // The methods by their numbers: what each needs and allows, and its runs. A later method has one line in each function here; in the last three,
 // which are asked for known methods alone, method 5 is what is left, and gets a test of its own then.
+#![tactic(auto)]
+
 ghost use Rattle.std.specs.Prelude.{◌≡◌, true, map, ◌^◌, ◌≤◌, length};
 ghost use Rattle.buffers.specs.Written.{in_front};
 ghost use Rattle.lookup.specs.Bounded.{Bounded};

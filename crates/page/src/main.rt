@@ -1,4 +1,6 @@
 // Prints the wall-cabinet page of the case sheet on standard input, or the number of its refusal.
+#![tactic(auto)]
+
 use libc::STDIN_FILENO;
 
 fn write_page(output: &[u8; 40960], length: usize) {

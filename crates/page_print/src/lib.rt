@@ -1,4 +1,6 @@
 // The page print: the wall-cabinet page that answers a case sheet.
+#![tactic(auto)]
+
 ghost use Rattle.std.specs.Prelude.{◌≡◌, length};
 ghost use Rattle.buffers.specs.Written.{in_front};
 ghost use Rattle.page_print.specs.Print.{page};

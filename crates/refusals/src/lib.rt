@@ -1,4 +1,6 @@
 // The tests that refusals are made of, in code: a number outside its bounds, and a number or byte of a list that is too large.
+#![tactic(auto)]
+
 ghost use Rattle.std.specs.Prelude.{◌≡◌};
 ghost use Rattle.refusals.specs.Tests.{outside as tests_outside, any_from};
 

@@ -1,4 +1,6 @@
 // The S-box of FIPS 197: its 256 bytes, in the order of the document's Figure 7.
+#![tactic(auto)]
+
 ghost use Rattle.std.specs.Prelude.{◌≡◌};
 ghost use Rattle.sbox.specs.Sbox.{sbox};
 

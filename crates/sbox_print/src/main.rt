@@ -1,4 +1,6 @@
 // Prints the S-box as FIPS 197's Figure 7 has it: 16 rows of 16 bytes, in hexadecimal.
+#![tactic(auto)]
+
 fn main() {
     let table = sbox::table();
     for i in 0..256 {

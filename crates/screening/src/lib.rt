@@ -1,19 +1,21 @@
 // A look at a run of random bytes, byte after byte, so that a noise source that is stuck is noticed: no value may stand more than 20 times
 // in 512 consecutive bytes.
+#![tactic(auto)]
+
 ghost use Rattle.std.specs.Prelude.{◌≡◌, ◌+◌, ◌-◌, ◌≤◌, ◌<◌};
 ghost use Rattle.table.specs.Balanced.{at};
 ghost use Rattle.screening.specs.Report.{report};
 ghost use Rattle.screening.specs.Window.{empty_window, without, with_one};
 
 // The report on a run: where its first faulty window starts, counted from 0, or that none is faulty.
-#[derive(Drop)]
+#[derive(Clone, Copy)]
 pub enum Report {
     Start(usize),
     None,
 }
 
 // The last 512 bytes, byte i of a run at i mod 512, and how often each value stands among them.
-#[derive(Drop)]
+#[derive(Clone, Copy)]
 pub struct Window {
     pub ring: [u8; 512],
     pub counts: [u16; 256],

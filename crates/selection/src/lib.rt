@@ -1,5 +1,7 @@
 // Choosing one half of a word by a bit, both in three shares, by Algorithm 4 of Rivain, Dottax and Prouff: with a log for the bench, and
 // without one. Neither the word nor the bit is ever formed.
+#![tactic(auto)]
+
 ghost use Rattle.std.specs.Prelude.{◌≡◌};
 ghost use Rattle.selection.specs.Select.{selection_from, select_reply, select_log, plain_select_refusal, plain_select_share};
 
@@ -9,7 +11,7 @@ mod logged;
 use halves::Selection;
 
 // What the call hands back: its refusal, the three shares of the half, and the count of log entries.
-#[derive(Drop)]
+#[derive(Clone, Copy)]
 pub struct Selected {
     pub refusal: u32,
     pub first: u32,

@@ -1,8 +1,10 @@
 // Three shares of a secret: splitting, joining and adding a key share by share. Refused input gets its number and zeros.
+#![tactic(auto)]
+
 ghost use Rattle.std.specs.Prelude.{◌≡◌};
 ghost use Rattle.shares.specs.Shares.{width_refusal as shares_width_refusal, reply as shares_reply, split as shares_split, join as shares_join, add_key as shares_add_key};
 
-#[derive(Drop)]
+#[derive(Clone, Copy)]
 pub struct Shares {
     pub refusal: u32,
     pub first: u32,
@@ -10,7 +12,7 @@ pub struct Shares {
     pub third: u32,
 }
 
-#[derive(Drop)]
+#[derive(Clone, Copy)]
 pub struct Joined {
     pub refusal: u32,
     pub secret: u32,

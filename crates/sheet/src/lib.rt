@@ -1,4 +1,6 @@
 // The bench print: what the program answers to a case sheet.
+#![tactic(auto)]
+
 ghost use Rattle.std.specs.Prelude.{◌≡◌, cond, length};
 ghost use Rattle.buffers.specs.Written.{in_front};
 ghost use Rattle.sheet.specs.Print.{print as print_print, reply as print_reply};

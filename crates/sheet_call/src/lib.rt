@@ -1,4 +1,6 @@
 // The call that a case sheet asks for: the sheet is read, and its case refused or looked up with a log.
+#![tactic(auto)]
+
 ghost use Rattle.std.specs.Prelude.{◌≡◌, cond};
 ghost use Rattle.sheet_call.specs.Call.{reply, log_left};
 

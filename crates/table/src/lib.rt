@@ -1,4 +1,6 @@
 // Which tables are refused: by their widths, their length, an entry, or since they are not fit. What fitness gives stands in specs/ and proofs/.
+#![tactic(auto)]
+
 ghost use Rattle.std.specs.Prelude.{◌≡◌, ◌≤◌, length, replicate};
 ghost use Rattle.table.specs.Refusals.{table_refusal as refusals_table_refusal};
 ghost use Rattle.table.specs.Counts.{Tally};

@@ -1,4 +1,6 @@
 // Prints what the bench print makes of each sheet of the file `cases`.
+#![tactic(auto)]
+
 use test_records::Sheet;
 
 fn print_sheet(bytes: &[u8]) {

@@ -2,6 +2,8 @@
 // A case is two records of the form that test_lookup_records says, the first call's and the second's, whose x0, r1 and r2 are not
 // looked at. A line is refusal, share and both counts, then both lent scratches and both lent logs after the call: whole where that call's
 // n is at most 2, and as a checksum each where it is larger.
+#![tactic(auto)]
+
 use chain::{Chained, Second};
 
 // What the second call has of its own.

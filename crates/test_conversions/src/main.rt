@@ -1,4 +1,6 @@
 // Prints what each sheet of the file `cases` is carried over to, in six columns and then in four.
+#![tactic(auto)]
+
 use test_records::Sheet;
 
 fn convert_sheet(bytes: &[u8]) {

@@ -2,6 +2,8 @@
 // A record is 304 bytes: the six numbers of a pair of probes as little-endian u32, then as u16 the lengths of table, scratch, log and
 // sheet, and from byte 32 the table. A line is the refusal, then the lent scratch and log after the call, whole where n is at most 1,
 // and as a checksum each where it is larger, and the lent sheet, whole.
+#![tactic(auto)]
+
 use count_sheet::ProbePair;
 
 fn pair(record: &[u8]) -> ProbePair {

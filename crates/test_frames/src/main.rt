@@ -3,6 +3,8 @@
 // bytes and of scratch bytes that are lent, the first scratch byte and what each later one has more than the one before it, and from byte
 // 70 the random bytes. A line is the refusal and the bytes of the three shares, then of the lent scratch after the call a checksum of the
 // first 256 bytes, and whole what stands behind them.
+#![tactic(auto)]
+
 use frame::Encrypted;
 
 // The types of places grow from a block to its columns and bytes, so that no sum wraps.

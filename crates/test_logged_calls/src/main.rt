@@ -1,6 +1,8 @@
 // Makes the logged calls that the records of the file `cases` ask for, and prints what each hands back and leaves as one line.
 // A record has the form that test_lookup_records says. A line is refusal, share and count, then the lent scratch and log after the call:
 // whole where n is at most 2, and as a checksum each where it is larger.
+#![tactic(auto)]
+
 use lookup::Called;
 
 fn print_line(called: Called, whole: bool, scratch: &[u8], log: &[u32]) {

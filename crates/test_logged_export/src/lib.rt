@@ -1,4 +1,6 @@
 // The calls with a log for C programs that measure or audit them; each returns the refusal. Firmware links cippazhey and not this.
+#![tactic(auto)]
+
 ghost use Rattle.std.specs.Prelude.{◌≡◌};
 ghost use Rattle.calls.specs.Reply.{case_from, logged_reply, logged_scratch, logged_log};
 ghost use Rattle.selection.specs.Select.{selection_from, select_reply, select_log};

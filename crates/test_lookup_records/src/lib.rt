@@ -2,6 +2,8 @@
 // A record is 320 bytes: the call's ten numbers as little-endian u32 in the order of its parameters, then as u16 the lengths of
 // table, scratch and log and the places from which and up to which, not including it, the scratch is lent dirty, and from byte 50
 // the table.
+#![tactic(auto)]
+
 ghost use Rattle.std.specs.Prelude.{◌≤◌};
 
 use lookup::Case;

@@ -1,4 +1,6 @@
 // Prints the page of each sheet of the file `cases`.
+#![tactic(auto)]
+
 use test_records::Sheet;
 
 fn print_page(bytes: &[u8]) {

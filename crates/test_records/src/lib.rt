@@ -1,4 +1,6 @@
 // Files of test cases: their records one after the other, the numbers in a record, and numbers and buffers printed on a line.
+#![tactic(auto)]
+
 ghost use Rattle.std.specs.Prelude.{◌≡◌, ◌≤◌, ◌<◌, min, get_or, take, drop};
 ghost use Rattle.test_records.specs.Files.{Opened, Filled};
 ghost use Rattle.test_records.specs.Little.{length_at, number_at};
@@ -26,7 +28,7 @@ pub fn read(file: i32, space: &mut [u8]) -> bool
 }
 
 // What a file of sheets holds next: a sheet of so many bytes, or no more.
-#[derive(Drop)]
+#[derive(Clone, Copy)]
 pub enum Sheet {
     Bytes(usize),
     None,

@@ -2,6 +2,8 @@
 // A record is 42 bytes and a pattern: the run's length as a little-endian u32 and the pattern's as a u16, then four changes of 9 bytes
 // each, and behind them the pattern. The run is the pattern, over and over. A change is the first place as a u32, then as u16 how far
 // apart the places are and how many, and the value that is put there.
+#![tactic(auto)]
+
 use libc::STDOUT_FILENO;
 use screening::Report;
 

@@ -2,6 +2,8 @@
 // A record is 48 bytes: from byte 0 stand the ten numbers as little-endian u32 in the order of the calls' parameters, bytes 40 and 41 are the
 // lent log's length, and byte 42 is 1 where that log is printed whole. A line is what the call with a log hands back, refusal and lent places
 // of the call without one, and the lent log, or its checksum.
+#![tactic(auto)]
+
 use halves::Selection;
 use selection::Selected;
 

@@ -1,6 +1,8 @@
 // Makes the calls that the records of the file `cases` ask for, and prints what each hands back as one line.
 // A record is 64 bytes: byte 0 is the call (0 split, 1 join, 2 add_key, 3 linear_layer), from byte 4 stand its numbers as
 // little-endian u32 in the order of the call's parameters, byte 40 is the number of rows, and from byte 41 stand the rows.
+#![tactic(auto)]
+
 use shares::{Joined, Shares};
 
 fn print_shares(answer: Shares) {

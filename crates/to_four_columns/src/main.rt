@@ -1,4 +1,6 @@
 // Carries the case sheet of six columns on standard input over to four, or prints the number of its refusal.
+#![tactic(auto)]
+
 use libc::STDIN_FILENO;
 
 fn write_sheet(output: &[u8; 2048], length: usize) {

@@ -1,4 +1,6 @@
 // Tables as sheets have them, of entries up to 65535: how one is refused that has an entry above 255, and the bytes of one that has none.
+#![tactic(auto)]
+
 ghost use Rattle.std.specs.Prelude.{◌≡◌, false, ◌≤◌, length};
 ghost use Rattle.buffers.specs.Written.{in_front};
 ghost use Rattle.wide_table.specs.Wide.{wide, wide_refusal as wide_wide_refusal};
