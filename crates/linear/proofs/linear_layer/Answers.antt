@@ -11,6 +11,7 @@ use Rattle.linear.specs.Layer.{layer, layer_refusal, mapped}
 use Rattle.linear.proofs.Refusal.{few_rows}
 use Rattle.linear.proofs.linear_layer.Goals as goal
 
+-- the reply of an accepted layer, from what the calls told
 done : (r : Shares) (j n m : ℕ) (rows : List ℕ) (k a b c f g h : ℕ) → r ≡ reply j (bit_xor f k) g h → j ≡ layer_refusal n m rows k a b c
     → f ≡ mapped rows a → g ≡ mapped rows b → h ≡ mapped rows c → r ≡ layer n m rows k a b c
 unfolding layer ◌⊕◌

@@ -7,6 +7,7 @@ use Rattle.table.proofs.Refusals.{at_3, at_4, at_5, at_6, at_7, at_end}
 use Rattle.table.proofs.Told.{room, table_few, width_most, long, not_long, some_large, none_large, counted_table}
 use Rattle.table.proofs.table_refusal.Goals as goal
 
+-- what accepted widths give, and what the calls and comparisons tell
 ruleset widths = (width_most, room, table_few)
 
 ruleset tests = (told, le_of_lt, not-true, not-false, long, not_long, some_large, none_large)

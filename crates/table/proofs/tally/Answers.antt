@@ -7,6 +7,7 @@ use Rattle.table.proofs.tally.Goals as goal
 pub loop-i-init : goal.loop-i-init
 loop-i-init c = search tallying_begins
 
+-- an entry is a byte
 pub overflow_cast-counts : goal.overflow_cast-counts
 overflow_cast-counts c = omega (arith, c.type_inv.table c.loop-i.i)
 

@@ -6,6 +6,7 @@ use Rattle.table.proofs.Differences.{power_most, power_fits, difference_byte}
 use Rattle.table.proofs.Differences.{periods_begin, periods_turn, periods_stop, periods_end}
 use Rattle.table.proofs.fitness.all_periods.Goals as goal
 
+-- what the call of `is_period` tells
 ruleset tests = (told, not-true, not-false)
 
 pub overflow_cast-limit : goal.overflow_cast-limit
