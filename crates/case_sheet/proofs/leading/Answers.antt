@@ -12,11 +12,11 @@ returns-in_default-clause-value c = search stops_counted
 pub returns-in_default-clause-numbers_after : goal.returns-in_default-clause-numbers_after
 returns-in_default-clause-numbers_after c = search stops_left
 
-pub offset_bounds-numbers-i : goal.offset_bounds-numbers-i
-offset_bounds-numbers-i c = search number_fits
+pub overflow_cast-numbers : goal.overflow_cast-numbers
+overflow_cast-numbers c = search number_fits
 
-pub bounds-numbers-i : goal.bounds-numbers-i
-bounds-numbers-i c = search next_fits
+pub overflow_add-at : goal.overflow_add-at
+overflow_add-at c = search next_fits
 
 pub loop-i-preserved : goal.loop-i-preserved
 loop-i-preserved c = search found_turns

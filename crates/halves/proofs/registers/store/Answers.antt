@@ -3,17 +3,17 @@ use Rattle.halves.proofs.Bounds.{half_byte}
 use Rattle.halves.proofs.Storing.{stored_0, stored_1, stored_2}
 use Rattle.halves.proofs.registers.store.Goals as goal
 
-pub bounds-a-place : goal.bounds-a-place
-bounds-a-place c = search half_byte
+pub overflow_cast-a : goal.overflow_cast-a
+overflow_cast-a c = search half_byte
 
-pub bounds-b-place : goal.bounds-b-place
-bounds-b-place c = search half_byte
+pub overflow_cast-b : goal.overflow_cast-b
+overflow_cast-b c = search half_byte
+
+pub overflow_cast-once : goal.overflow_cast-once
+overflow_cast-once c = search half_byte
 
 pub overflow_cast-c : goal.overflow_cast-c
 overflow_cast-c c = search half_byte
-
-pub bounds-c-place : goal.bounds-c-place
-bounds-c-place c = search half_byte
 
 pub returns-clause-a_after : goal.returns-clause-a_after
 returns-clause-a_after c = search stored_0
