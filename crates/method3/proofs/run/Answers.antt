@@ -1,0 +1,7 @@
+-- `method3::run` meets its contract.
+use borrow.Author.Rules.{rules}
+use Rattle.method3.proofs.Selecting.{selected_answers}
+use Rattle.method3.proofs.run.Goals as goal
+
+pub returns-clause-value : goal.returns-clause-value
+returns-clause-value c = search selected_answers
