@@ -12,11 +12,11 @@ ghost use Rattle.frame_lookups.specs.Lookups.{
   case_2,
   answered,
   filled,
-  lookups_word_answers,
-  lookups_word_masks,
-  lookups_column_answers,
-  lookups_state_answers,
-  lookups_state_masks,
+  word_answers as lookups_word_answers,
+  word_masks as lookups_word_masks,
+  column_answers as lookups_column_answers,
+  state_answers as lookups_state_answers,
+  state_masks as lookups_state_masks,
 };
 
 use lookup::Case;

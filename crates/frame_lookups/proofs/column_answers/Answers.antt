@@ -5,6 +5,10 @@ use Rattle.frame_lookups.specs.Shares.{share}
 use Rattle.frame_lookups.specs.Lookups.{column_answers}
 use Rattle.frame_lookups.proofs.column_answers.Goals as goal
 
-pub returns : goal.returns
+pub returns-clause-value : goal.returns-clause-value
 unfolding column_answers column share
-returns c = (search rules, search rules)
+returns-clause-value c = search rules
+
+pub returns-clause-scratch_unchanged : goal.returns-clause-scratch_unchanged
+unfolding column_answers column share
+returns-clause-scratch_unchanged c = search rules

@@ -5,17 +5,17 @@ use Rattle.frame_lookups.proofs.Clearing.{four_clear}
 use Rattle.frame_lookups.proofs.Placed.{state_answers_made}
 use Rattle.frame_lookups.proofs.state_answers.Goals as goal
 
-pub column_answers-requires : goal.column_answers-requires
-column_answers-requires c = (search rules, (omega arith, (search rules, search rules)))
+pub column_answers-requires-clause-p_in_bounds : goal.column_answers-requires-clause-p_in_bounds
+column_answers-requires-clause-p_in_bounds c = omega arith
 
-pub column_answers-requires-2 : goal.column_answers-requires-2
-column_answers-requires-2 c = (search rules, (omega arith, (search rules, search rules)))
+pub column_answers-requires-2-clause-p_in_bounds : goal.column_answers-requires-2-clause-p_in_bounds
+column_answers-requires-2-clause-p_in_bounds c = omega arith
 
-pub column_answers-requires-3 : goal.column_answers-requires-3
-column_answers-requires-3 c = (search rules, (omega arith, (search rules, search rules)))
+pub column_answers-requires-3-clause-p_in_bounds : goal.column_answers-requires-3-clause-p_in_bounds
+column_answers-requires-3-clause-p_in_bounds c = omega arith
 
-pub column_answers-requires-4 : goal.column_answers-requires-4
-column_answers-requires-4 c = (search rules, (omega arith, (search rules, search rules)))
+pub column_answers-requires-4-clause-p_in_bounds : goal.column_answers-requires-4-clause-p_in_bounds
+column_answers-requires-4-clause-p_in_bounds c = omega arith
 
 pub returns : goal.returns
 returns c =

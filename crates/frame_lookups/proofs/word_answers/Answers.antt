@@ -5,17 +5,17 @@ use Rattle.frame_lookups.proofs.Clearing.{four_clear}
 use Rattle.frame_lookups.proofs.Placed.{word_answers_made}
 use Rattle.frame_lookups.proofs.word_answers.Goals as goal
 
-pub answer-requires : goal.answer-requires
-answer-requires c = (omega arith, (search rules, search rules))
+pub answer-requires-clause-p_in_bounds : goal.answer-requires-clause-p_in_bounds
+answer-requires-clause-p_in_bounds c = omega arith
 
-pub answer-requires-2 : goal.answer-requires-2
-answer-requires-2 c = (omega arith, (search rules, search rules))
+pub answer-requires-2-clause-p_in_bounds : goal.answer-requires-2-clause-p_in_bounds
+answer-requires-2-clause-p_in_bounds c = omega arith
 
-pub answer-requires-3 : goal.answer-requires-3
-answer-requires-3 c = (omega arith, (search rules, search rules))
+pub answer-requires-3-clause-p_in_bounds : goal.answer-requires-3-clause-p_in_bounds
+answer-requires-3-clause-p_in_bounds c = omega arith
 
-pub answer-requires-4 : goal.answer-requires-4
-answer-requires-4 c = (omega arith, (search rules, search rules))
+pub answer-requires-4-clause-p_in_bounds : goal.answer-requires-4-clause-p_in_bounds
+answer-requires-4-clause-p_in_bounds c = omega arith
 
 pub returns : goal.returns
 returns c =
