@@ -8,7 +8,3 @@ use Rattle.frame_lookups.proofs.column_answers.Goals as goal
 pub returns-clause-value : goal.returns-clause-value
 unfolding column_answers column share
 returns-clause-value c = search rules
-
-pub returns-clause-scratch_unchanged : goal.returns-clause-scratch_unchanged
-unfolding column_answers column share
-returns-clause-scratch_unchanged c = search rules

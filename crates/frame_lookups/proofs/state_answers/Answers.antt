@@ -17,11 +17,12 @@ column_answers-requires-3-clause-p_in_bounds c = omega arith
 pub column_answers-requires-4-clause-p_in_bounds : goal.column_answers-requires-4-clause-p_in_bounds
 column_answers-requires-4-clause-p_in_bounds c = omega arith
 
-pub returns : goal.returns
-returns c =
-    (
-      state_answers_made _ _ _ _ _ _ _ c.column_answers.ensures.0 c.column_answers-2.ensures.0 c.column_answers-3.ensures.0
-          c.column_answers-4.ensures.0,
-      four_clear _ _ _ _ _ c.column_answers.ensures.1 c.column_answers-2.ensures.1 c.column_answers-3.ensures.1
-          c.column_answers-4.ensures.1,
-    )
+pub returns-clause-value : goal.returns-clause-value
+returns-clause-value c =
+    state_answers_made _ _ _ _ _ _ _ c.column_answers.ensures.value c.column_answers-2.ensures.value
+    c.column_answers-3.ensures.value c.column_answers-4.ensures.value
+
+pub returns-clause-scratch_unchanged : goal.returns-clause-scratch_unchanged
+returns-clause-scratch_unchanged c =
+    four_clear _ _ _ _ _ c.column_answers.ensures.scratch_unchanged c.column_answers-2.ensures.scratch_unchanged
+    c.column_answers-3.ensures.scratch_unchanged c.column_answers-4.ensures.scratch_unchanged

@@ -17,9 +17,10 @@ answer-requires-3-clause-p_in_bounds c = omega arith
 pub answer-requires-4-clause-p_in_bounds : goal.answer-requires-4-clause-p_in_bounds
 answer-requires-4-clause-p_in_bounds c = omega arith
 
-pub returns : goal.returns
-returns c =
-    (
-      search word_answers_made,
-      four_clear _ _ _ _ _ c.answer.ensures.1.1 c.answer-2.ensures.1.1 c.answer-3.ensures.1.1 c.answer-4.ensures.1.1,
-    )
+pub returns-clause-value : goal.returns-clause-value
+returns-clause-value c = search word_answers_made
+
+pub returns-clause-scratch_unchanged : goal.returns-clause-scratch_unchanged
+returns-clause-scratch_unchanged c =
+    four_clear _ _ _ _ _ c.answer.ensures.scratch_unchanged c.answer-2.ensures.scratch_unchanged
+    c.answer-3.ensures.scratch_unchanged c.answer-4.ensures.scratch_unchanged
