@@ -24,8 +24,8 @@ loop-i-smaller c = omega arith
 
 pub loop-i-preserved : goal.loop-i-preserved
 loop-i-preserved c =
-    turning_turns _ _ _ _ _ _ _ _ _ _ _ _ (search rules) c.next_key-next.ensures.0 c.next_key-next.ensures.1 (search rules)
-    c.mix-mixed.ensures.0 c.mix-mixed.ensures.1 (search rules) c.loop-i.invariant
+    turning_turns _ _ _ _ _ _ _ _ _ _ _ _ (search rules) c.next_key-next.ensures.value c.next_key-next.ensures.scratch_unchanged (search rules)
+    c.mix-mixed.ensures.value c.mix-mixed.ensures.scratch_unchanged (search rules) c.loop-i.invariant
 
 pub next_key-last-requires-clause-i_bound : goal.next_key-last-requires-clause-i_bound
 next_key-last-requires-clause-i_bound c = omega arith
