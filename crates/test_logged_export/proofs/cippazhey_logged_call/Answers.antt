@@ -1,0 +1,11 @@
+-- `test_logged_export::cippazhey_logged_call` meets its contract.
+use borrow.Author.Rules.{rules}
+use mathlib.Core.Path.{◌≡◌, ap}
+use Rattle.lookup.specs.declared.Called.{Called}
+use Rattle.test_logged_export.proofs.cippazhey_logged_call.Goals as goal
+
+same-refusal : {r s : Called} → r ≡ s → r.refusal ≡ s.refusal
+same-refusal e = ap (λ (t : Called). t.refusal) e
+
+pub returns-clause-value : goal.returns-clause-value
+returns-clause-value c = search same-refusal
