@@ -13,8 +13,8 @@ use Rattle.lookup.proofs.put_masked_entry.Goals as goal
 -- a byte that is written, and has a mask added then
 module _ (before after : List ℕ) (to first second : ℕ)
     (e : after ≡ set (set before to first) to (get_or (set before to first) to 0 ⊕ second)) where
-  put-long : length after ≡ length before
-  put-long = rw e (length-set (set before to first) to _ ∙ length-set before to first)
+  put_long : length after ≡ length before
+  put_long = rw e (length-set (set before to first) to _ ∙ length-set before to first)
 
   put_both : to < length before → after ≡ set before to (first ⊕ second)
   put_both h = e ∙ set-set before to first _ ∙ rw (get_or-set_same before to first 0 h)
@@ -23,7 +23,7 @@ pub bounds-table-index : goal.bounds-table-index
 bounds-table-index c = search in_table
 
 pub shape_of-bytes : goal.shape_of-bytes
-shape_of-bytes c = search put-long
+shape_of-bytes c = search put_long
 
 pub returns : goal.returns
 unfolding masked at ◌⊕◌

@@ -6,11 +6,11 @@ use lib.Bits.{bit_xor, xor_self}
 use Rattle.lookup.proofs.unknown_zero.Goals as goal
 
 -- whatever is handed back, if it is what was handed over
-same-joined : (value result : ℕ) → result ≡ value → bit_xor result value ≡ 0
-same-joined value result e = rw e (xor_self value)
+same_joined : (value result : ℕ) → result ≡ value → bit_xor result value ≡ 0
+same_joined value result e = rw e (xor_self value)
 
 pub returns : goal.returns
-returns c = same-joined _ _ c.value_barrier.ensures
+returns c = same_joined _ _ c.value_barrier.ensures
 
 pub overflow_cast-result : goal.overflow_cast-result
 overflow_cast-result c = omega (arith, returns c)

@@ -6,10 +6,10 @@ use native.Mathlib.Omega.{arith}
 use lib.ListN.{get_or}
 use Rattle.lookup.proofs.value_barrier.Goals as goal
 
-either-cell : (v i : ℕ) → i < 2 → get_or (v ∷ v ∷ []) i 0 ≡ v
-either-cell v zero h = refl
-either-cell v (suc zero) h = refl
-either-cell v (suc (suc i)) h = absurd (omega arith)
+either_cell : (v i : ℕ) → i < 2 → get_or (v ∷ v ∷ []) i 0 ≡ v
+either_cell v zero h = refl
+either_cell v (suc zero) h = refl
+either_cell v (suc (suc i)) h = absurd (omega arith)
 
 pub returns : goal.returns
-returns c = either-cell c.args.value (c.args.index % 2) (omega arith)
+returns c = either_cell c.args.value (c.args.index % 2) (omega arith)

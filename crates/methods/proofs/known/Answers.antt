@@ -7,23 +7,23 @@ use Rattle.methods.proofs.Found.{known_none}
 use Rattle.methods.proofs.known.Goals as goal
 
 -- the methods' numbers, one by one
-at-2 : (k : ℕ) → k ≡ 2 → true ≡ known k
+at_2 : (k : ℕ) → k ≡ 2 → true ≡ known k
 unfolding known among
-at-2 k e = rw e
+at_2 k e = rw e
 
-at-3 : (k : ℕ) → k ≡ 3 → true ≡ known k
+at_3 : (k : ℕ) → k ≡ 3 → true ≡ known k
 unfolding known among
-at-3 k e = rw e
+at_3 k e = rw e
 
 at_5 : (k : ℕ) → k ≡ 5 → true ≡ known k
 unfolding known among
 at_5 k e = rw e
 
 pub returns-then-method-eq2 : goal.returns-then-method-eq2
-returns-then-method-eq2 c = search at-2
+returns-then-method-eq2 c = search at_2
 
 pub returns-then-method-eq3 : goal.returns-then-method-eq3
-returns-then-method-eq3 c = search at-3
+returns-then-method-eq3 c = search at_3
 
 pub returns-then-method-eq5 : goal.returns-then-method-eq5
 returns-then-method-eq5 c = search at_5

@@ -4,8 +4,8 @@ use mathlib.Core.Path.{◌≡◌, ap}
 use Rattle.lookup.specs.declared.Called.{Called}
 use Rattle.test_logged_export.proofs.cippazhey_logged_call.Goals as goal
 
-same-refusal : {r s : Called} → r ≡ s → r.refusal ≡ s.refusal
-same-refusal e = ap (λ (t : Called). t.refusal) e
+same_refusal : {r s : Called} → r ≡ s → r.refusal ≡ s.refusal
+same_refusal e = ap (λ (t : Called). t.refusal) e
 
 pub returns-clause-value : goal.returns-clause-value
-returns-clause-value c = search same-refusal
+returns-clause-value c = search same_refusal
