@@ -8,7 +8,6 @@ use native.Mathlib.Omega.{arith}
 use borrow.Author.Tests.{le-leb, eq-eqb, ne_eqb}
 use lib.Dec.{eqb, lit<}
 use lib.ListN.{drop}
-use Rattle.field.specs.declared.Field.{Field}
 use Rattle.field.specs.declared.Field.TheVariants.{Number, Malformed}
 use Rattle.field.specs.Field.{digit, decimal, number, spaces, up_to, field_of}
 use Rattle.field.specs.Printed.{mark, front, printed}

@@ -1,4 +1,3 @@
-use Prim.Native.Nat.{◌-◌}
 use Rattle.buffers.proofs.Front.{front_begins, front_whole_turns, front_whole}
 use Rattle.buffers.proofs.clear.Goals as goal
 

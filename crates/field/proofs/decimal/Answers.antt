@@ -1,4 +1,3 @@
-use Prim.Native.Nat.{◌-◌}
 use native.Mathlib.Omega.{arith}
 use Rattle.field.proofs.Reading.{none_read, no_digit, too_large, one_read, all_read, from_zero, more_fits}
 use Rattle.field.proofs.decimal.Goals as goal

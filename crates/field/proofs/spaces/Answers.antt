@@ -1,4 +1,3 @@
-use Prim.Native.Nat.{◌-◌}
 use Rattle.field.proofs.Reading.{none_passed, one_passed, other_met, all_passed}
 use Rattle.field.proofs.spaces.Goals as goal
 

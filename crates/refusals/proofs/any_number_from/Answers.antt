@@ -1,5 +1,4 @@
 use mathlib.Core.Path.{refl}
-use Prim.Native.Nat.{◌-◌}
 use Rattle.refusals.proofs.Tests.{rest_stops, rest_goes, rest_ends}
 use Rattle.refusals.proofs.any_number_from.Goals as goal
 
