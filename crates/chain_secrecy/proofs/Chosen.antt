@@ -17,7 +17,7 @@ use Rattle.lookup.specs.Methods.{known, method_of}
 use Rattle.lookup.specs.Call.{answer}
 use Rattle.lookup.proofs.Methods.{of_each}
 use Rattle.lookup.proofs.Right.{right}
-use Rattle.secrecy.specs.Count.{single, chosen_case, mask_widths}
+use Rattle.secrecy.specs.Count.{chosen_case, mask_widths}
 use Rattle.secrecy.proofs.Hiding.{Hiding, Drawn}
 use Rattle.chain.specs.Chain.{second_case, following}
 use Rattle.chain_secrecy.specs.Count.{Boxes, behind, chain_widths, first_case, second_own}

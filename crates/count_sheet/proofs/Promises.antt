@@ -20,7 +20,7 @@ use Rattle.table.specs.Tabulate.{tabulate}
 use Rattle.table.proofs.Tabulate.{tabulate_at, tabulate_long}
 use Rattle.table.proofs.Refusals.{table_accepted}
 use Rattle.lookup.specs.Call.{log_of, log_length, scratch_length}
-use Rattle.secrecy.specs.Count.{mask_widths, count}
+use Rattle.secrecy.specs.Count.{mask_widths}
 use Rattle.secrecy.specs.Promises.{TellsNothing, ChoicesCounted}
 use Rattle.secrecy.proofs.Promises.{tells_nothing, choices_counted}
 use Rattle.buffers.proofs.Written.{in_front_at}

@@ -2,14 +2,13 @@
 use mathlib.Core.Path.{◌≡◌, refl, sym, ap, ◌∙◌}
 use mathlib.Core.Bool.{Bool, true, false, cond, true≢false}
 use mathlib.Core.List.{List, [], ◌∷◌, ◌++◌, map, map-append, append_assoc, append-nil}
-use Prim.Native.Nat.{ℕ, zero, suc, ◌+◌, ◌*◌, ◌-◌, ◌/◌, ◌%◌, ◌^◌, ◌≤◌, ◌<◌}
+use Prim.Native.Nat.{ℕ, zero, suc, ◌+◌, ◌*◌, ◌-◌, ◌^◌, ◌≤◌, ◌<◌}
 use native.Mathlib.Nat.{zero-add, add-zero, div-add-mod'}
 use native.Mathlib.Omega.{arith}
-use lib.Dec.{eqb, lit<}
+use lib.Dec.{eqb}
 use lib.ListN.{length, take, drop, length-take, length-append, length-map}
 use lib.Seq.{length-take-le, take-add, take_all}
 use Rattle.buffers.proofs.Blocks.{blocks_long}
-use Rattle.counting.specs.Sum.{sum}
 use Rattle.counting.proofs.Sum.{sum_ext}
 use Rattle.refusals.specs.Tests.{any_from}
 use Rattle.refusals.proofs.Tests.{any_less}
@@ -20,11 +19,11 @@ use Rattle.field.specs.Printed.{printed}
 use Rattle.field.proofs.Printing.{printed_long}
 use Rattle.lookup.specs.Entry.{entry, kind_of, value_of, kind_limit}
 use Rattle.log_page.specs.Page.{entry_columns, side_by_side, blanks, rising, lines_needed, often, page_of}
-use Rattle.log_page.specs.Reading.{text_lines, ended, entry_text, lines_below, Blank, cell, showing, Shown, entries_read}
-use Rattle.log_page.specs.Reading.{Figure, figure, figures_read, shown_from, number_of, log_shown, has_number, times_shown}
+use Rattle.log_page.specs.Reading.{text_lines, ended, entry_text, Blank, showing, entries_read}
+use Rattle.log_page.specs.Reading.{figure, figures_read, shown_from, number_of, log_shown, has_number, times_shown}
 use Rattle.log_page.specs.Reading.{kind_figure, every_kind, figures_of}
 use Rattle.log_page.specs.Promises.{LinesEnded, FiveALine, HasRoom, EntriesShown, LogBack, FiguresRight, FiguresAddUp}
-use Rattle.log_page.proofs.Rising.{rising_blocks, rising_more, rising_past, rising_map, rising_same}
+use Rattle.log_page.proofs.Rising.{rising_blocks, rising_past, rising_map, rising_same}
 use Rattle.log_page.proofs.Blanks.{blanks_long}
 use Rattle.log_page.proofs.SideBySide.{side_long}
 use Rattle.log_page.proofs.Splitting.{whole_split}

@@ -2,14 +2,12 @@
 use mathlib.Core.Path.{◌≡◌, refl, ap, ◌∙◌}
 use mathlib.Core.Bool.{Bool, true, false, ◌&&◌}
 use mathlib.Core.List.{List, [], ◌∷◌, ◌++◌, map, append_assoc}
-use Prim.Native.Nat.{ℕ, zero, suc, ◌+◌, ◌*◌, ◌-◌, ◌/◌, ◌%◌, ◌^◌, ◌≤◌, ◌<◌}
+use Prim.Native.Nat.{ℕ, zero, suc, ◌+◌, ◌-◌, ◌/◌, ◌%◌, ◌^◌, ◌≤◌, ◌<◌}
 use native.Mathlib.Omega.{arith}
 use borrow.Author.Tests.{ne_eqb}
-use lib.Dec.{eqb, lit<}
+use lib.Dec.{eqb}
 use lib.ListN.{length, take, drop, length-append}
 use lib.Seq.{take_at, drop_at}
-use Rattle.field.specs.declared.Field.TheVariants.{Number}
-use Rattle.field.specs.Field.{field_of}
 use Rattle.field.specs.Printed.{front, printed}
 use Rattle.field.specs.Promises.{ReadBack}
 use Rattle.field.proofs.Printing.{printed_long}
@@ -18,8 +16,7 @@ use Rattle.refusals.specs.Tests.{any_from}
 use Rattle.refusals.proofs.Tests.{all_below}
 use Rattle.lookup.specs.Entry.{kind_of, value_of, kind_limit}
 use Rattle.log_page.specs.Page.{entry_columns, side_by_side, blanks}
-use Rattle.log_page.specs.Reading.{blank, Cell, Blank, Holds, cell, showing, Shown, shown, entries_of, Figure, figure, shown_from}
-use Rattle.log_page.proofs.Blanks.{blanks_long}
+use Rattle.log_page.specs.Reading.{blank, Blank, cell, showing, shown, entries_of, figure, shown_from}
 use Rattle.log_page.proofs.SideBySide.{entry_long}
 
 -- BLANKS

@@ -1,16 +1,15 @@
 -- What is read of the page that answers a sheet, the longest page, and what of the input decides: promises of specs/Promises.antt, proved.
-use mathlib.Core.Path.{◌≡◌, refl, ap, ◌∙◌}
-use mathlib.Core.List.{List, [], ◌∷◌}
-use Prim.Native.Nat.{ℕ, zero, suc, ◌≤◌}
+use mathlib.Core.Path.{◌≡◌, ap, ◌∙◌}
+use mathlib.Core.List.{List}
+use Prim.Native.Nat.{ℕ, zero, suc}
 use native.Mathlib.Omega.{arith}
-use lib.ListN.{length, take}
 use Rattle.field.specs.Printed.{printed}
 use Rattle.case_sheet.specs.Edition.{six_columns}
 use Rattle.log_print.specs.Lines.{line_of, unless_refused}
 use Rattle.log_print.proofs.Refused.{nothing_refused, where_accepted, unless_refused_most}
 use Rattle.log_page.specs.Page.{page_of}
 use Rattle.log_page.specs.Reading.{text_lines, ended}
-use Rattle.log_page.specs.Promises.{LinesEnded, HasRoom, EntriesShown, FiguresRight}
+use Rattle.log_page.specs.Promises.{LinesEnded, EntriesShown, FiguresRight}
 use Rattle.log_page.proofs.Splitting.{printed_plain, whole_line, whole_split}
 use Rattle.log_page.proofs.Pages.{page_few}
 use Rattle.log_page.proofs.Promises.{lines_ended, entries_shown, figures_right}

@@ -8,7 +8,6 @@ use Rattle.bits.proofs.Xor.{xors, below}
 use Rattle.refusals.specs.Tests.{outside, any_from}
 use Rattle.refusals.proofs.Checks.{goes, none_applies, passed}
 use Rattle.refusals.proofs.Tests.{all_below, one_below, none_below}
-use Rattle.shares.specs.declared.Shares.{Shares}
 use Rattle.shares.specs.Shares.{width_refusal, reply, secret_reply, split, join, add_key}
 use Rattle.shares.specs.Promises.{SplitJoins, KeyAdds}
 

@@ -8,7 +8,6 @@ use Rattle.refusals.specs.Tests.{outside, any_from}
 use Rattle.refusals.proofs.Checks.{stops, goes, none_applies}
 use Rattle.refusals.proofs.Tests.{inside}
 use Rattle.shares.specs.declared.Shares.{Shares}
-use Rattle.shares.specs.declared.Joined.{Joined}
 use Rattle.shares.specs.Shares.{width_refusal, reply, secret_reply}
 
 pub refused : (k a b c : ℕ) → (k ≡ 0 → ⊥) → record { refusal = k; first = 0; second = 0; third = 0 } ≡ reply k a b c

@@ -12,13 +12,11 @@ use lib.Pow.{pow_mono}
 use Rattle.bits.specs.Xor.{◌⊕◌}
 use Rattle.refusals.specs.Checks.{first_of}
 use Rattle.refusals.specs.Tests.{outside, any_from}
-use Rattle.refusals.proofs.Checks.{goes, stops_both}
-use Rattle.refusals.proofs.Tests.{any_less, inside, one_below, none_below}
+use Rattle.refusals.proofs.Tests.{one_below, none_below}
 use Rattle.table.specs.Balanced.{at, count_of}
 use Rattle.table.specs.Fit.{occurs, each_value, equally_often, closed, fit}
-use Rattle.table.specs.Refusals.{table_checks, table_refusal}
+use Rattle.table.specs.Refusals.{table_checks}
 use Rattle.table.proofs.Balanced.{none_from}
-use Rattle.table.proofs.Refusals.{at_6}
 use Rattle.wide_table.specs.Wide.{wide}
 use Rattle.wide_table.specs.Promises.{WideSix}
 use Rattle.wide_table.proofs.Promises.{wide_six}

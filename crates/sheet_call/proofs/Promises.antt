@@ -1,7 +1,7 @@
 -- Numbers above 255, the longest log, and how much of the input decides: promises of specs/Promises.antt and specs/Wide.antt, proved.
 use mathlib.Core.Path.{◌≡◌, refl, sym, ap, ◌∙◌}
 use mathlib.Core.Bool.{Bool, true, false, ◌||◌, true≢false}
-use mathlib.Core.List.{List, [], ◌∷◌}
+use mathlib.Core.List.{List, ◌∷◌}
 use Prim.Native.Nat.{ℕ, ◌^◌, ◌≤◌, ◌<◌}
 use native.Mathlib.Nat.{lt_of_lt_of_le}
 use native.Mathlib.Omega.{arith}
@@ -13,17 +13,14 @@ use Rattle.bits.specs.Xor.{◌⊕◌}
 use Rattle.refusals.specs.Left.{left}
 use Rattle.refusals.specs.Checks.{first_of}
 use Rattle.refusals.specs.Tests.{outside, any_from}
-use Rattle.refusals.proofs.Checks.{goes, stops_both}
-use Rattle.refusals.proofs.Tests.{any_less, inside, one_below, none_below}
+use Rattle.refusals.proofs.Tests.{one_below, none_below}
 use Rattle.table.specs.Balanced.{at, count_of}
 use Rattle.table.specs.Fit.{occurs, each_value, equally_often, closed, fit}
-use Rattle.table.specs.Refusals.{table_checks, table_refusal}
+use Rattle.table.specs.Refusals.{table_checks}
 use Rattle.table.proofs.Balanced.{none_from}
-use Rattle.table.proofs.Refusals.{at_6}
 use Rattle.wide_table.specs.Wide.{wide}
 use Rattle.wide_table.specs.Promises.{WideSix}
 use Rattle.wide_table.proofs.Promises.{wide_six}
-use Rattle.lookup.specs.declared.Case.{Case}
 use Rattle.lookup.specs.Case.{Q}
 use Rattle.lookup.specs.Methods.{among, found, known, method_of}
 use Rattle.lookup.specs.Refusals.{case_refusal, case_checks, box_checks, method_checks, mask_checks, untaken}

@@ -1,4 +1,3 @@
-use Prim.Native.Nat.{◌-◌}
 use Rattle.call_checks.proofs.Scratch.{marked_begins, cell_within, marked_turns, marked_ends}
 use Rattle.call_checks.proofs.dirty.Goals as goal
 

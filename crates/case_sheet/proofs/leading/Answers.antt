@@ -1,4 +1,3 @@
-use Prim.Native.Nat.{◌-◌}
 use Rattle.case_sheet.proofs.Found.{found_begins, found_turns, stops_counted}
 use Rattle.case_sheet.proofs.Found.{stops_left, found_counted, found_left, number_fits, next_fits}
 use Rattle.case_sheet.proofs.leading.Goals as goal

@@ -1,5 +1,4 @@
 -- `cippazhey::cippazhey_encrypt_frame` meets its contract.
-use borrow.Author.Rules.{rules}
 use Rattle.cippazhey.proofs.Framed.{number_is, zero_is, share_kept, share1_given, share2_given, share3_given}
 use Rattle.cippazhey.proofs.cippazhey_encrypt_frame.Goals as goal
 

@@ -1,5 +1,4 @@
 -- `cippazhey::cippazhey_plain_call` meets its contract.
-use borrow.Author.Rules.{rules}
 use Rattle.cippazhey.proofs.Exported.{product_fits, sum_fits, result_fits, result_is}
 use Rattle.cippazhey.proofs.cippazhey_plain_call.Goals as goal
 

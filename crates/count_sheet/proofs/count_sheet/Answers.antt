@@ -1,5 +1,4 @@
 -- `count_sheet::count_sheet` meets its contract.
-use borrow.Author.Rules.{rules}
 use Rattle.count_sheet.proofs.Leaving.{part_is, part_long, sheet_kept, scratch_kept, log_kept, zero_told, taken_countable}
 use Rattle.count_sheet.proofs.Leaving.{input_told, larger_told, bytes_room, entries_room, size_room, size_long}
 use Rattle.count_sheet.proofs.Leaving.{scratch_zeroed, log_zeroed, sheet_filled}

@@ -1,5 +1,4 @@
 -- `count_sheet::fill` meets its contract.
-use borrow.Author.Rules.{rules}
 use Rattle.count_sheet.proofs.Leaving.{zeros_told}
 use Rattle.count_sheet.proofs.fill.Goals as goal
 

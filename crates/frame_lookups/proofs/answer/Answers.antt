@@ -1,5 +1,4 @@
 -- `frame_lookups::answer` meets its contract.
-use borrow.Author.Rules.{rules}
 use Rattle.frame_lookups.proofs.Cases.{answered_by}
 use Rattle.frame_lookups.proofs.Clearing.{filled_by, now_clean, lookup_clears}
 use Rattle.frame_lookups.proofs.answer.Goals as goal

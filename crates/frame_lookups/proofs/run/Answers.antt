@@ -1,5 +1,4 @@
 -- `frame_lookups::run` meets its contract.
-use borrow.Author.Rules.{rules}
 use native.Mathlib.Omega.{arith}
 use Rattle.frame_lookups.proofs.Cases.{table_long, answer_of}
 use Rattle.frame_lookups.proofs.Clearing.{scratch_of, cleared_after}

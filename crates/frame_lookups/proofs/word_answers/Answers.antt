@@ -1,5 +1,4 @@
 -- `frame_lookups::word_answers` meets its contract.
-use borrow.Author.Rules.{rules}
 use native.Mathlib.Omega.{arith}
 use Rattle.frame_lookups.proofs.Clearing.{four_clear}
 use Rattle.frame_lookups.proofs.Placed.{word_answers_made}

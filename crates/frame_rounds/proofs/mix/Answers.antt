@@ -1,5 +1,4 @@
 -- `frame_rounds::mix` meets its contract.
-use borrow.Author.Rules.{rules}
 use Rattle.frame_rounds.proofs.Shared.{mixing_made}
 use Rattle.frame_rounds.proofs.mix.Goals as goal
 

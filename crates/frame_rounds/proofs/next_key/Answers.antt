@@ -1,5 +1,4 @@
 -- `frame_rounds::next_key` meets its contract.
-use borrow.Author.Rules.{rules}
 use native.Mathlib.Omega.{arith}
 use Rattle.frame_rounds.proofs.Shared.{next_key_made}
 use Rattle.frame_rounds.proofs.next_key.Goals as goal

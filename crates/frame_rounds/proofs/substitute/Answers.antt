@@ -1,5 +1,4 @@
 -- `frame_rounds::substitute` meets its contract.
-use borrow.Author.Rules.{rules}
 use native.Mathlib.Omega.{arith}
 use Rattle.frame_rounds.proofs.Shared.{substituted_made}
 use Rattle.frame_rounds.proofs.substitute.Goals as goal

@@ -1,5 +1,4 @@
 use borrow.Author.Rules.{rules}
-use Prim.Native.Nat.{◌-◌}
 use native.Mathlib.Omega.{arith}
 use Rattle.frame_rounds.proofs.Turning.{turning_begins, turning_turns, turning_ends, turning_kept, turning_room}
 use Rattle.frame_rounds.proofs.ten.Goals as goal

@@ -1,5 +1,4 @@
 -- `linear::layer_refusal` meets its contract.
-use borrow.Author.Rules.{rules}
 use Rattle.refusals.proofs.Tests.{told, told_from}
 use Rattle.shares.proofs.Replies.{width_small}
 use Rattle.linear.proofs.Refusal.{at_3, at_4, at_8, at_9_row, at_9_constant}

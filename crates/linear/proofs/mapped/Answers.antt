@@ -1,4 +1,3 @@
-use Prim.Native.Nat.{◌-◌}
 use native.Mathlib.Omega.{arith}
 use Rattle.linear.specs.Layer.{odd_common}
 use Rattle.linear.proofs.Matrix.{mapping_begins, mapping_turns, mapping_ends}

@@ -1,4 +1,3 @@
-use Prim.Native.Nat.{◌-◌}
 use native.Mathlib.Omega.{arith}
 use Rattle.buffers.proofs.Pasting.{pasting_begins}
 use Rattle.log_entries.proofs.Putting.{putting_turns, putting_ends}

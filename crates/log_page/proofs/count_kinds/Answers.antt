@@ -1,4 +1,3 @@
-use Prim.Native.Nat.{◌-◌}
 use Rattle.log_page.proofs.KindLines.{kind_known, kind_fits, counting_begins, counter_fits, counting_turns, counting_ends}
 use Rattle.log_page.proofs.count_kinds.Goals as goal
 

@@ -1,4 +1,3 @@
-use Prim.Native.Nat.{◌-◌}
 use Rattle.log_page.proofs.SideBySide.{siding_begins, siding_room, siding_fits, siding_turns, siding_ends}
 use Rattle.log_page.proofs.put_entries.Goals as goal
 

@@ -1,4 +1,3 @@
-use Prim.Native.Nat.{◌-◌}
 use Rattle.log_page.proofs.FiveALine.{lined_begins, first_most, next_fits, line_room, part_few, end_above, end_within}
 use Rattle.log_page.proofs.FiveALine.{lined_turns, lined_long, lined_left}
 use Rattle.log_page.proofs.put_entry_lines.Goals as goal

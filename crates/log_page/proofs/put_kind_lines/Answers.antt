@@ -1,4 +1,3 @@
-use Prim.Native.Nat.{◌-◌}
 use Rattle.log_page.proofs.KindLines.{listing_begins, listing_room, listing_turns, listing_long, listing_left}
 use Rattle.log_page.proofs.put_kind_lines.Goals as goal
 

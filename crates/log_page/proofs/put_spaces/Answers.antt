@@ -1,4 +1,3 @@
-use Prim.Native.Nat.{◌-◌}
 use Rattle.log_page.proofs.Blanks.{spacing_begins, spacing_room, spacing_turns, spacing_ends}
 use Rattle.log_page.proofs.put_spaces.Goals as goal
 

@@ -1,5 +1,4 @@
 use borrow.Author.Rules.{rules}
-use Prim.Native.Nat.{◌-◌}
 use Rattle.log_print.proofs.Columns.{lining_begins, lining_room, lining_fits, lining_turns, lining_ends}
 use Rattle.log_print.proofs.put_column.Goals as goal
 

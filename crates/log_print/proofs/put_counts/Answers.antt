@@ -1,5 +1,4 @@
 use borrow.Author.Rules.{rules}
-use Prim.Native.Nat.{◌-◌}
 use Rattle.log_print.proofs.Counts.{rows_begin, end_fits, start_fits, row_within, row_room, numbers_fit, line_fits}
 use Rattle.log_print.proofs.Counts.{next_fits, rows_turn, rows_long, rows_left}
 use Rattle.log_print.proofs.put_counts.Goals as goal

@@ -1,4 +1,3 @@
-use Prim.Native.Nat.{◌-◌}
 use Rattle.log_print.proofs.Entries.{listing_begins, listing_turns, listing_ends, listing_room}
 use Rattle.log_print.proofs.put_entries.Goals as goal
 

@@ -1,5 +1,4 @@
 use borrow.Author.Rules.{rules}
-use Prim.Native.Nat.{◌-◌}
 use Rattle.log_print.proofs.Lines.{filling_begins, filling_room, filling_fits, filling_turns}
 use Rattle.log_print.proofs.Lines.{feed_room, filling_ends}
 use Rattle.log_print.proofs.put_line.Goals as goal

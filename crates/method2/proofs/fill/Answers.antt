@@ -1,5 +1,3 @@
-use borrow.Author.Rules.{rules}
-use Prim.Native.Nat.{◌-◌}
 use Rattle.method2.proofs.Filling.{from_first, filling_begins, filling_put, filling_ends, filling_in_scratch}
 use Rattle.method2.proofs.fill.Goals as goal
 

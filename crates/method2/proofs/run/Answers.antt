@@ -1,5 +1,4 @@
 -- `method2::run` meets its contract.
-use borrow.Author.Rules.{rules}
 use Rattle.method2.proofs.Filling.{filled_answers}
 use Rattle.method2.proofs.run.Goals as goal
 

@@ -1,6 +1,6 @@
 use mathlib.Core.Path.{◌≡◌}
 use mathlib.Core.List.{List}
-use Prim.Native.Nat.{ℕ, ◌-◌, ◌^◌, ◌≤◌}
+use Prim.Native.Nat.{ℕ, ◌^◌, ◌≤◌}
 use lib.ListN.{length}
 use Rattle.buffers.proofs.Front.{front_begins, front_turns}
 use Rattle.method3.proofs.Prepared.{prepared_ends, prepared_compares}

@@ -1,5 +1,4 @@
 -- `method3::run` meets its contract.
-use borrow.Author.Rules.{rules}
 use Rattle.method3.proofs.Selecting.{selected_answers}
 use Rattle.method3.proofs.run.Goals as goal
 

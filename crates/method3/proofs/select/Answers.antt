@@ -1,5 +1,4 @@
 use borrow.Author.Rules.{rules}
-use Prim.Native.Nat.{◌-◌}
 use native.Mathlib.Omega.{arith}
 use Rattle.method3.proofs.Selecting.{selecting_begins, selecting_ends, place_in_scratch, byte_a_register, selecting_put}
 use Rattle.method3.proofs.select.Goals as goal

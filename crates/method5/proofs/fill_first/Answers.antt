@@ -1,5 +1,3 @@
-use borrow.Author.Rules.{rules}
-use Prim.Native.Nat.{◌-◌}
 use Rattle.method5.proofs.Copying.{copying_begins, first_index, first_place, first_turns, first_ends}
 use Rattle.method5.proofs.fill_first.Goals as goal
 

@@ -1,5 +1,3 @@
-use borrow.Author.Rules.{rules}
-use Prim.Native.Nat.{◌-◌}
 use Rattle.method5.proofs.Copying.{copying_begins, second_index, second_place, second_turns, second_ends}
 use Rattle.method5.proofs.fill_second.Goals as goal
 

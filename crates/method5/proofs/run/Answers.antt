@@ -1,5 +1,4 @@
 -- `method5::run` meets its contract.
-use borrow.Author.Rules.{rules}
 use Rattle.method5.proofs.Filled.{read_answers}
 use Rattle.method5.proofs.run.Goals as goal
 

@@ -1,5 +1,4 @@
 -- `methods::run_logged` meets its contract.
-use borrow.Author.Rules.{rules}
 use Rattle.lookup.specs.Method2.{method_2}
 use Rattle.lookup.specs.Method3.{method_3}
 use Rattle.lookup.specs.Method5.{method_5}

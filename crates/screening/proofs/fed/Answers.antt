@@ -1,4 +1,3 @@
-use Prim.Native.Nat.{◌-◌}
 use lib.Dec.{lit≤}
 use Rattle.table.specs.Balanced.{at}
 use Rattle.screening.proofs.Feeding.{fed_begins, fed_turns, fed_stops, fed_ends, can_leave, can_come}

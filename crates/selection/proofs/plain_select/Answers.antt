@@ -1,5 +1,4 @@
 -- `selection::plain_select` meets its contract.
-use borrow.Author.Rules.{rules}
 use Rattle.selection.proofs.Accepted.{told_bounded}
 use Rattle.selection.proofs.Replies.{share_refused, zero_told, share_accepted}
 use Rattle.selection.proofs.plain_select.Goals as goal

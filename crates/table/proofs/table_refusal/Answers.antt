@@ -1,5 +1,4 @@
 -- `table::table_refusal` meets its contract.
-use borrow.Author.Rules.{rules}
 use native.Mathlib.Nat.{le_of_lt}
 use borrow.Author.Tests.{not-true, not-false}
 use Rattle.refusals.proofs.Tests.{told}

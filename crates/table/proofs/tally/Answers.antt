@@ -1,4 +1,3 @@
-use Prim.Native.Nat.{◌-◌}
 use native.Mathlib.Omega.{arith}
 use lib.Dec.{lit≤}
 use Rattle.table.proofs.Counts.{tallying_begins, tallying_turns, counter_small, counter_fits, tallying_ends}

@@ -1,5 +1,4 @@
 -- `test_logged_export::cippazhey_logged_call` meets its contract.
-use borrow.Author.Rules.{rules}
 use mathlib.Core.Path.{◌≡◌, ap}
 use Rattle.lookup.specs.declared.Called.{Called}
 use Rattle.test_logged_export.proofs.cippazhey_logged_call.Goals as goal

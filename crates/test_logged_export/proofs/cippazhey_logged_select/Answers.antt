@@ -1,5 +1,4 @@
 -- `test_logged_export::cippazhey_logged_select` meets its contract.
-use borrow.Author.Rules.{rules}
 use mathlib.Core.Path.{◌≡◌, ap}
 use Rattle.selection.specs.declared.Selected.{Selected}
 use Rattle.test_logged_export.proofs.cippazhey_logged_select.Goals as goal

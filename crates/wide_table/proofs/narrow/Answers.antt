@@ -1,4 +1,3 @@
-use Prim.Native.Nat.{◌-◌}
 use Rattle.buffers.proofs.Pasting.{pasting_begins}
 use Rattle.wide_table.proofs.Narrowing.{entry_fits, narrowing_turns, narrowing_ends}
 use Rattle.wide_table.proofs.narrow.Goals as goal

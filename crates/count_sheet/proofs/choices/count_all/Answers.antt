@@ -1,5 +1,3 @@
-use borrow.Author.Rules.{rules}
-use Prim.Native.Nat.{◌-◌}
 use Rattle.count_sheet.proofs.Masks.{masks_room, bits_room}
 use Rattle.count_sheet.proofs.Tallying.{tallied_begins, tallied_few, tallied_turns, tallied_ends, tallied_long}
 use Rattle.count_sheet.proofs.choices.count_all.Goals as goal

@@ -1,4 +1,3 @@
-use Prim.Native.Nat.{◌-◌}
 use Rattle.count_sheet.proofs.Masks.{one_small, limit_positive, taking_begins, taking_turns, taking_ends}
 use Rattle.count_sheet.proofs.choices.masks.Goals as goal
 

@@ -1,4 +1,3 @@
-use Prim.Native.Nat.{◌-◌}
 use Rattle.count_sheet.proofs.Masks.{summed_begins, summed_fits, summed_turns, summed_ends}
 use Rattle.count_sheet.proofs.choices.total.Goals as goal
 

@@ -1,5 +1,4 @@
 -- `halves::registers::fill` meets its contract.
-use borrow.Author.Rules.{rules}
 use Rattle.halves.proofs.Bounds.{place_below, place_most}
 use Rattle.halves.proofs.Storing.{filled}
 use Rattle.halves.proofs.registers.fill.Goals as goal

@@ -1,4 +1,3 @@
-use Prim.Native.Nat.{◌-◌}
 use Rattle.log_entries.proofs.Logging.{logging_begins, rows_turns, rows_room, rows_ends}
 use Rattle.method2.proofs.Filling.{filling_begins, filling_turns, filling_in_scratch, filling_ends}
 use Rattle.method2.proofs.Turned.{turn_place, turn_value}

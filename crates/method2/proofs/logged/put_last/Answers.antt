@@ -1,5 +1,4 @@
 -- `method2::logged::put_last` meets its contract.
-use borrow.Author.Rules.{rules}
 use Rattle.log_entries.proofs.Logging.{written_behind}
 use Rattle.method2.proofs.logged.put_last.Goals as goal
 

@@ -1,5 +1,4 @@
 -- `method2::logged::run` meets its contract.
-use borrow.Author.Rules.{rules}
 use Rattle.method2.proofs.Filling.{read_answers}
 use Rattle.method2.proofs.Turned.{turned_whole}
 use Rattle.method2.proofs.logged.run.Goals as goal

@@ -1,5 +1,4 @@
 -- `method3::logged::run` meets its contract.
-use borrow.Author.Rules.{rules}
 use Rattle.method3.proofs.Selecting.{read_answers}
 use Rattle.method3.proofs.Turned.{turned_whole}
 use Rattle.method3.proofs.logged.run.Goals as goal

@@ -1,4 +1,3 @@
-use Prim.Native.Nat.{◌-◌}
 use Rattle.log_entries.proofs.Logging.{logging_begins, rows_turns, rows_room, rows_ends}
 use Rattle.method3.proofs.Selecting.{selecting_begins, selecting_turns, selecting_ends}
 use Rattle.method3.proofs.Turned.{turn_compared, turn_value, turn_register}

@@ -1,5 +1,4 @@
 use borrow.Author.Rules.{rules}
-use Prim.Native.Nat.{◌-◌}
 use Rattle.log_entries.proofs.Logging.{logging_begins, rows_ends}
 use Rattle.method5.proofs.Copying.{copying_begins, first_place, first_turns, first_ends}
 use Rattle.method5.proofs.Turned.{first_copied, first_room, first_logged}

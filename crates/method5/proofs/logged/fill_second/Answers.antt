@@ -1,5 +1,3 @@
-use borrow.Author.Rules.{rules}
-use Prim.Native.Nat.{◌-◌}
 use Rattle.log_entries.proofs.Logging.{logging_begins, rows_ends}
 use Rattle.method5.proofs.Copying.{copying_begins, second_half_long, second_place, second_turns, second_ends}
 use Rattle.method5.proofs.Turned.{second_copied, second_shown, second_room, second_logged}

@@ -1,5 +1,4 @@
 -- `method5::logged::first_turn` meets its contract.
-use borrow.Author.Rules.{rules}
 use Rattle.method5.proofs.Copying.{index_byte, index_in_table}
 use Rattle.method5.proofs.logged.first_turn.Goals as goal
 

@@ -1,5 +1,4 @@
 -- `method5::logged::put_last` meets its contract.
-use borrow.Author.Rules.{rules}
 use Rattle.method5.proofs.Turned.{end_written}
 use Rattle.method5.proofs.logged.put_last.Goals as goal
 

@@ -1,5 +1,4 @@
 -- `method5::logged::run` meets its contract.
-use borrow.Author.Rules.{rules}
 use Rattle.method5.proofs.Filled.{read_answers}
 use Rattle.method5.proofs.Turned.{turned_whole}
 use Rattle.method5.proofs.logged.run.Goals as goal

@@ -1,5 +1,4 @@
 -- `method5::logged::second_turn` meets its contract.
-use borrow.Author.Rules.{rules}
 use Rattle.method5.proofs.Copying.{index_byte, index_in_half}
 use Rattle.method5.proofs.logged.second_turn.Goals as goal
 

@@ -1,5 +1,4 @@
 -- `selection::logged::run` meets its contract.
-use borrow.Author.Rules.{rules}
 use Rattle.selection.proofs.Logging.{log_written}
 use Rattle.selection.proofs.logged.run.Goals as goal
 

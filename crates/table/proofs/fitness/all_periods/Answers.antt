@@ -1,6 +1,4 @@
-use borrow.Author.Rules.{rules}
 use borrow.Author.Tests.{not-true, not-false}
-use Prim.Native.Nat.{◌-◌}
 use Rattle.refusals.proofs.Tests.{told}
 use Rattle.table.proofs.Differences.{power_most, power_fits, difference_byte}
 use Rattle.table.proofs.Differences.{periods_begin, periods_turn, periods_stop, periods_end}

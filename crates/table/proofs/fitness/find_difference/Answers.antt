@@ -1,4 +1,3 @@
-use Prim.Native.Nat.{◌-◌}
 use native.Mathlib.Nat.{le_of_lt}
 use native.Mathlib.Omega.{arith}
 use Rattle.table.proofs.Differences.{power_fits, power_twice_fits, looking_begins, looking_turns, looking_finds, looking_ends}

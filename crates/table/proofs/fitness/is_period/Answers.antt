@@ -1,4 +1,3 @@
-use Prim.Native.Nat.{◌-◌}
 use Rattle.table.proofs.Differences.{zero_period, agreeing_begins, agreeing_turns, agreeing_stops, agreeing_ends}
 use Rattle.table.proofs.fitness.is_period.Goals as goal
 

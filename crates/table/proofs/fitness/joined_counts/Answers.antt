@@ -1,4 +1,3 @@
-use Prim.Native.Nat.{◌-◌}
 use Rattle.table.proofs.Counts.{join_begins, join_turns, join_ends}
 use Rattle.table.proofs.fitness.joined_counts.Goals as goal
 
