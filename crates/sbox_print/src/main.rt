@@ -1,19 +1,18 @@
 // Prints the S-box as FIPS 197's Figure 7 has it: 16 rows of 16 bytes, in hexadecimal.
 #![tactic(auto)]
 
-fn main() {
+use std::io;
+
+fn main(rt: HostRuntime) -> io::Result<()> {
     let table = sbox::table();
     for i in 0..256 {
-        print_entry(table[i], i % 16 == 15);
+        print_entry(&rt, table[i], i % 16 == 15)?;
     }
+    Ok(())
 }
 
 // The byte's two digits, and then a space, or a line feed after the last byte of a row.
-fn print_entry(byte: u8, last: bool) {
-    io::print_hex(1, byte as u64, 2);
-    if last {
-        io::write_all(1, b"\n");
-    } else {
-        io::write_all(1, b" ");
-    }
+fn print_entry(rt: &impl Print, byte: u8, last: bool) -> io::Result<()> {
+    print!(rt; "{byte:02x}")?;
+    if last { println!(rt;) } else { print!(rt; " ") }
 }

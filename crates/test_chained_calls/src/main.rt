@@ -5,6 +5,8 @@
 #![tactic(auto)]
 
 use chain::{Chained, Second};
+use std::fs::File;
+use std::io;
 
 // What the second call has of its own.
 fn second_call(record: &[u8]) -> Second {
@@ -20,38 +22,40 @@ fn second_call(record: &[u8]) -> Second {
     }
 }
 
-fn print_reply(chained: Chained) {
-    test_records::print_first(chained.refusal);
-    test_records::print_next(chained.share);
-    test_records::print_next(chained.first_count);
-    test_records::print_next(chained.second_count);
+fn print_reply(rt: &impl Print, chained: Chained) -> io::Result<()> {
+    test_records::print_first(rt, chained.refusal)?;
+    test_records::print_next(rt, chained.share)?;
+    test_records::print_next(rt, chained.first_count)?;
+    test_records::print_next(rt, chained.second_count)
 }
 
 // Prints the buffers of a case's two records as the call left them.
 fn print_buffers(
+    rt: &impl Print,
     first: &[u8],
     second: &[u8],
     first_scratch: &[u8],
     second_scratch: &[u8],
     first_log: &[u32],
     second_log: &[u32],
-) {
-    test_records::print_bytes(test_lookup_records::whole(first), first_scratch);
-    test_records::print_bytes(test_lookup_records::whole(second), second_scratch);
-    test_records::print_numbers(test_lookup_records::whole(first), first_log);
-    test_records::print_numbers(test_lookup_records::whole(second), second_log);
-    test_records::end_line();
+) -> io::Result<()> {
+    test_records::print_bytes(rt, test_lookup_records::whole(first), first_scratch)?;
+    test_records::print_bytes(rt, test_lookup_records::whole(second), second_scratch)?;
+    test_records::print_numbers(rt, test_lookup_records::whole(first), first_log)?;
+    test_records::print_numbers(rt, test_lookup_records::whole(second), second_log)?;
+    test_records::end_line(rt)
 }
 
 // Makes a case's call on the buffers lent, and prints its line.
 fn print_call(
+    rt: &impl Print,
     first: &[u8],
     second: &[u8],
     first_scratch: &mut [u8],
     second_scratch: &mut [u8],
     first_log: &mut [u32],
     second_log: &mut [u32],
-) {
+) -> io::Result<()> {
     let chained = chain::chained_call(
         test_lookup_records::case(first),
         second_call(second),
@@ -62,40 +66,43 @@ fn print_call(
         first_log,
         second_log,
     );
-    print_reply(chained);
+    print_reply(rt, chained)?;
     print_buffers(
+        rt,
         first,
         second,
         first_scratch,
         second_scratch,
         first_log,
         second_log,
-    );
+    )
 }
 
 // The same, with the scratches prepared as the records say.
 fn prepare_and_print(
+    rt: &impl Print,
     first: &[u8],
     second: &[u8],
     first_scratch: &mut [u8],
     second_scratch: &mut [u8],
     first_log: &mut [u32],
     second_log: &mut [u32],
-) {
+) -> io::Result<()> {
     test_lookup_records::prepare(first, first_scratch);
     test_lookup_records::prepare(second, second_scratch);
     print_call(
+        rt,
         first,
         second,
         first_scratch,
         second_scratch,
         first_log,
         second_log,
-    );
+    )
 }
 
 // Lends filled buffers of the records' lengths, so that what is cleared, what a call writes and what it leaves can all be seen.
-fn answer(first: &[u8], second: &[u8]) {
+fn answer(rt: &impl Print, first: &[u8], second: &[u8]) -> io::Result<()> {
     let mut first_scratch = [90u8; 600];
     let mut second_scratch = [90u8; 600];
     let mut first_log = [2779096485u32; 2400];
@@ -105,34 +112,37 @@ fn answer(first: &[u8], second: &[u8]) {
     let first_entries = test_lookup_records::log_length(first);
     let second_entries = test_lookup_records::log_length(second);
     prepare_and_print(
+        rt,
         first,
         second,
         &mut first_scratch[..first_bytes],
         &mut second_scratch[..second_bytes],
         &mut first_log[..first_entries],
         &mut second_log[..second_entries],
-    );
+    )
 }
 
 // Reads one case and answers it; false where the file holds no more.
-fn answer_next(file: i32) -> bool {
+fn answer_next(rt: &impl Print, file: &mut File) -> io::Result<bool> {
     let mut first = [0u8; 320];
     let mut second = [0u8; 320];
-    if !test_records::read(file, &mut first) {
-        return false;
+    if !test_records::read(file, &mut first)? {
+        return Ok(false);
     }
-    if !test_records::read(file, &mut second) {
-        return false;
+    if !test_records::read(file, &mut second)? {
+        return Ok(false);
     }
-    answer(&first, &second);
-    true
+    answer(rt, &first, &second)?;
+    Ok(true)
 }
 
-// A proved loop has to end, so it counts down from more turns than any file of cases takes.
-fn main() {
-    let file = test_records::open();
-    let mut turns = u32::MAX;
-    while turns > 0 && answer_next(file) {
-        turns -= 1;
+// A proved loop has to end, so it has more turns than any file of cases takes.
+fn main(rt: HostRuntime) -> io::Result<()> {
+    let mut file = test_records::open(&rt)?;
+    for _ in 0..u32::MAX {
+        if !answer_next(&rt, &mut file)? {
+            break;
+        }
     }
+    Ok(())
 }

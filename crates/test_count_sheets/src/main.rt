@@ -5,6 +5,8 @@
 #![tactic(auto)]
 
 use count_sheet::ProbePair;
+use std::fs::File;
+use std::io;
 
 fn pair(record: &[u8]) -> ProbePair {
     ProbePair {
@@ -18,19 +20,25 @@ fn pair(record: &[u8]) -> ProbePair {
 }
 
 // Makes a record's call on the buffers lent, and prints its line.
-fn print_call(record: &[u8], scratch: &mut [u8], log: &mut [u32], sheet: &mut [u32]) {
+fn print_call(
+    rt: &impl Print,
+    record: &[u8],
+    scratch: &mut [u8],
+    log: &mut [u32],
+    sheet: &mut [u32],
+) -> io::Result<()> {
     let table = test_records::part(record, 32, test_records::length(record, 24));
     let refusal = count_sheet::count_sheet(pair(record), table, scratch, log, sheet);
     let whole = test_records::number(record, 4) <= 1;
-    test_records::print_first(refusal);
-    test_records::print_bytes(whole, scratch);
-    test_records::print_numbers(whole, log);
-    test_records::print_numbers(true, sheet);
-    test_records::end_line();
+    test_records::print_first(rt, refusal)?;
+    test_records::print_bytes(rt, whole, scratch)?;
+    test_records::print_numbers(rt, whole, log)?;
+    test_records::print_numbers(rt, true, sheet)?;
+    test_records::end_line(rt)
 }
 
 // Lends filled buffers of the record's lengths, so that what a call clears, what it overwrites and what it leaves can all be seen.
-fn answer(record: &[u8]) {
+fn answer(rt: &impl Print, record: &[u8]) -> io::Result<()> {
     let mut scratch = [165u8; 600];
     let mut log = [2779096485u32; 2400];
     let mut sheet = [4042322160u32; 100];
@@ -38,28 +46,31 @@ fn answer(record: &[u8]) {
     let entries = test_records::least(test_records::length(record, 28), 2400);
     let counts = test_records::least(test_records::length(record, 30), 100);
     print_call(
+        rt,
         record,
         &mut scratch[..bytes],
         &mut log[..entries],
         &mut sheet[..counts],
-    );
+    )
 }
 
 // Reads one record and answers it; false where the file holds no more.
-fn answer_next(file: i32) -> bool {
+fn answer_next(rt: &impl Print, file: &mut File) -> io::Result<bool> {
     let mut record = [0u8; 304];
-    if !test_records::read(file, &mut record) {
-        return false;
+    if !test_records::read(file, &mut record)? {
+        return Ok(false);
     }
-    answer(&record);
-    true
+    answer(rt, &record)?;
+    Ok(true)
 }
 
-// A proved loop has to end, so it counts down from more turns than any file of cases takes.
-fn main() {
-    let file = test_records::open();
-    let mut turns = u32::MAX;
-    while turns > 0 && answer_next(file) {
-        turns -= 1;
+// A proved loop has to end, so it has more turns than any file of cases takes.
+fn main(rt: HostRuntime) -> io::Result<()> {
+    let mut file = test_records::open(&rt)?;
+    for _ in 0..u32::MAX {
+        if !answer_next(&rt, &mut file)? {
+            break;
+        }
     }
+    Ok(())
 }

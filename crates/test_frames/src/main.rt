@@ -6,6 +6,8 @@
 #![tactic(auto)]
 
 use frame::Encrypted;
+use std::fs::File;
+use std::io;
 
 // The types of places grow from a block to its columns and bytes, so that no sum wraps.
 fn byte(record: &[u8], at: u32) -> u8 {
@@ -32,32 +34,30 @@ fn block(record: &[u8], at: u8) -> [[u8; 4]; 4] {
     ]
 }
 
-fn print_line(encrypted: Encrypted, scratch: &[u8]) {
+fn print_line(rt: &impl Print, encrypted: Encrypted, scratch: &[u8]) -> io::Result<()> {
     let share1 = encrypted.share1;
     let share2 = encrypted.share2;
     let share3 = encrypted.share3;
-    test_records::print_first(encrypted.refusal);
-    test_records::print_bytes(true, &share1);
-    test_records::print_bytes(true, &share2);
-    test_records::print_bytes(true, &share3);
-    test_records::print_bytes(false, test_records::part(scratch, 0, 256));
-    test_records::print_bytes(true, test_records::part(scratch, 256, scratch.len()));
-    test_records::end_line();
+    test_records::print_first(rt, encrypted.refusal)?;
+    test_records::print_bytes(rt, true, &share1)?;
+    test_records::print_bytes(rt, true, &share2)?;
+    test_records::print_bytes(rt, true, &share3)?;
+    test_records::print_bytes(rt, false, test_records::part(scratch, 0, 256))?;
+    test_records::print_bytes(rt, true, test_records::part(scratch, 256, scratch.len()))?;
+    test_records::end_line(rt)
 }
 
 // Writes one byte after the other, each so much more than the one before it.
 fn soil(buffer: &mut [u8], first: u8, step: u8) {
     let mut next = first;
-    let mut at = 0;
-    while at < buffer.len() {
-        buffer[at] = next;
-        next = std::num::wrapping_add_u8(next, step);
-        at += 1;
+    for byte in buffer {
+        *byte = next;
+        next = next.wrapping_add(step);
     }
 }
 
 // Encrypts a record's frame on the scratch lent, which it soils first, and prints its line.
-fn print_frame(record: &[u8], scratch: &mut [u8]) {
+fn print_frame(rt: &impl Print, record: &[u8], scratch: &mut [u8]) -> io::Result<()> {
     soil(scratch, byte(record, 68), byte(record, 69));
     let encrypted = frame::encrypt_frame(
         block(record, 0),
@@ -67,30 +67,32 @@ fn print_frame(record: &[u8], scratch: &mut [u8]) {
         test_records::part(record, 70, test_records::length(record, 64)),
         scratch,
     );
-    print_line(encrypted, scratch);
+    print_line(rt, encrypted, scratch)
 }
 
-fn answer(record: &[u8]) {
+fn answer(rt: &impl Print, record: &[u8]) -> io::Result<()> {
     let mut scratch = [0u8; 300];
     let bytes = test_records::least(test_records::length(record, 66), 300);
-    print_frame(record, &mut scratch[..bytes]);
+    print_frame(rt, record, &mut scratch[..bytes])
 }
 
 // Reads one record and answers it; false where the file holds no more.
-fn answer_next(file: i32) -> bool {
+fn answer_next(rt: &impl Print, file: &mut File) -> io::Result<bool> {
     let mut record = [0u8; 704];
-    if !test_records::read(file, &mut record) {
-        return false;
+    if !test_records::read(file, &mut record)? {
+        return Ok(false);
     }
-    answer(&record);
-    true
+    answer(rt, &record)?;
+    Ok(true)
 }
 
-// A proved loop has to end, so it counts down from more turns than any file of cases takes.
-fn main() {
-    let file = test_records::open();
-    let mut turns = u32::MAX;
-    while turns > 0 && answer_next(file) {
-        turns -= 1;
+// A proved loop has to end, so it has more turns than any file of cases takes.
+fn main(rt: HostRuntime) -> io::Result<()> {
+    let mut file = test_records::open(&rt)?;
+    for _ in 0..u32::MAX {
+        if !answer_next(&rt, &mut file)? {
+            break;
+        }
     }
+    Ok(())
 }

@@ -4,48 +4,63 @@
 #![tactic(auto)]
 
 use lookup::Called;
+use std::fs::File;
+use std::io;
 
-fn print_line(called: Called, whole: bool, scratch: &[u8], log: &[u32]) {
-    test_records::print_first(called.refusal);
-    test_records::print_next(called.share);
-    test_records::print_next(called.count);
-    test_records::print_bytes(whole, scratch);
-    test_records::print_numbers(whole, log);
-    test_records::end_line();
+fn print_line(
+    rt: &impl Print,
+    called: Called,
+    whole: bool,
+    scratch: &[u8],
+    log: &[u32],
+) -> io::Result<()> {
+    test_records::print_first(rt, called.refusal)?;
+    test_records::print_next(rt, called.share)?;
+    test_records::print_next(rt, called.count)?;
+    test_records::print_bytes(rt, whole, scratch)?;
+    test_records::print_numbers(rt, whole, log)?;
+    test_records::end_line(rt)
 }
 
 // Makes a record's call on the buffers lent, the scratch prepared as the record says, and prints its line.
-fn print_call(record: &[u8], scratch: &mut [u8], log: &mut [u32]) {
+fn print_call(
+    rt: &impl Print,
+    record: &[u8],
+    scratch: &mut [u8],
+    log: &mut [u32],
+) -> io::Result<()> {
     test_lookup_records::prepare(record, scratch);
     let table = test_lookup_records::table(record);
     let called = calls::logged(test_lookup_records::case(record), table, scratch, log);
-    print_line(called, test_lookup_records::whole(record), scratch, log);
+    print_line(rt, called, test_lookup_records::whole(record), scratch, log)
 }
 
 // Lends filled buffers of the record's lengths, so that what is cleared, what a call writes and what it leaves can all be seen.
-fn answer(record: &[u8]) {
+fn answer(rt: &impl Print, record: &[u8]) -> io::Result<()> {
     let mut scratch = [90u8; 600];
     let mut log = [2779096485u32; 2400];
     let bytes = test_lookup_records::scratch_length(record);
     let entries = test_lookup_records::log_length(record);
-    print_call(record, &mut scratch[..bytes], &mut log[..entries]);
+    print_call(rt, record, &mut scratch[..bytes], &mut log[..entries])
 }
 
 // Reads one record and answers it; false where the file holds no more.
-fn answer_next(file: i32) -> bool {
+fn answer_next(rt: &impl Print, file: &mut File) -> io::Result<bool> {
     let mut record = [0u8; 320];
-    if !test_records::read(file, &mut record) {
-        return false;
+    if !test_records::read(file, &mut record)? {
+        return Ok(false);
     }
-    answer(&record);
-    true
+    answer(rt, &record)?;
+    Ok(true)
 }
 
-// A proved loop has to end, so it counts down from more turns than any file of cases takes.
-fn main() {
-    let file = test_records::open();
-    let mut turns = u32::MAX;
-    while turns > 0 && answer_next(file) {
-        turns -= 1;
+// A proved loop has to end, so it has more turns than any file of cases takes.
+fn main(rt: HostRuntime) -> io::Result<()> {
+    let mut file = test_records::open(&rt)?;
+    for _ in 0..u32::MAX {
+        if !answer_next(&rt, &mut file)? {
+            break;
+        }
     }
+    Ok(())
 }

@@ -58,9 +58,7 @@ pub fn prepare(record: &[u8], scratch: &mut [u8]) {
 
 // Writes 165 from one place up to, not including, another, as far as the buffer reaches.
 fn soil(buffer: &mut [u8], from: usize, to: usize) {
-    let mut at = from;
-    while at < to && at < buffer.len() {
+    for at in from..to.min(buffer.len()) {
         buffer[at] = 165;
-        at += 1;
     }
 }

@@ -1,30 +1,41 @@
 // Files of test cases: their records one after the other, the numbers in a record, and numbers and buffers printed on a line.
 #![tactic(auto)]
 
-ghost use Rattle.std.specs.Prelude.{◌≡◌, ◌≤◌, ◌<◌, min, get_or, take, drop};
+ghost use Rattle.std.specs.Prelude.{◌≡◌, ◌≤◌, ◌<◌, min, get_or, take, drop, true};
+ghost use Rattle.std.specs.Io.KnownBytes.{Consumes};
 ghost use Rattle.test_records.specs.Files.{Opened, Filled};
 ghost use Rattle.test_records.specs.Little.{length_at, number_at};
 
-use libc::STDOUT_FILENO;
+use std::fs::File;
+use std::io::{ErrorKind, Read};
+use std::os::fd::AsRawFd;
+use std::rt::Files;
+use std::{fs, io};
 
-// Opens the file `cases`. Where that fails it says why and answers -1, from which `read` takes no record.
-pub fn open() -> i32
+// Opens the file `cases`, or answers why that failed. No contract of the library says what a descriptor is, so that is tested.
+pub fn open(rt: &impl Files<File = File>) -> io::Result<File>
     ensures { Opened result }
 {
-    let path = b"cases";
-    let file = os::open_read(path);
-    if file < 0 {
-        os::fail(path);
-        return -1;
+    let file = fs::open(rt, "cases")?;
+    if file.as_raw_fd() < 0 {
+        return Err(io::Error::from(ErrorKind::NotFound));
     }
-    file
+    Ok(file)
 }
 
 // Fills the space from the file; false where the file holds no whole record more. No contract can say what the system reads.
-pub fn read(file: i32, space: &mut [u8]) -> bool
-    ensures { Filled space.old space.new result }
+pub fn read<R: Read>(file: &mut R, space: &mut [u8]) -> io::Result<bool>
+    ensures filled { Filled space.old space.new result }
+    ensures bytes { result ≡ Ok true → Consumes (R.remaining file.old) (R.remaining file.new) space.new }
 {
-    io::read_full(file, space) == space.len()
+    if space.is_empty() {
+        return Ok(true);
+    }
+    match file.read_exact(space) {
+        Ok(()) => Ok(true),
+        Err(error) if error.kind() == ErrorKind::UnexpectedEof => Ok(false),
+        Err(error) => Err(error),
+    }
 }
 
 // What a file of sheets holds next: a sheet of so many bytes, or no more.
@@ -35,16 +46,16 @@ pub enum Sheet {
 }
 
 // Reads the next sheet into the front of the space: its length as two little-endian bytes, then its bytes, as far as the space goes.
-pub fn next_sheet(file: i32, space: &mut [u8]) -> Sheet {
+pub fn next_sheet<R: Read>(file: &mut R, space: &mut [u8]) -> io::Result<Sheet> {
     let mut size = [0u8; 2];
-    if !read(file, &mut size) {
-        return Sheet::None;
+    if !read(file, &mut size)? {
+        return Ok(Sheet::None);
     }
     let count = least(length(&size, 0), space.len());
-    if !read(file, &mut space[..count]) {
-        return Sheet::None;
+    if !read(file, &mut space[..count])? {
+        return Ok(Sheet::None);
     }
-    Sheet::Bytes(count)
+    Ok(Sheet::Bytes(count))
 }
 
 // The byte at a place; past the end it is 0.
@@ -99,17 +110,16 @@ pub fn least(one: usize, other: usize) -> usize
 }
 
 // Prints a line's first number.
-pub fn print_first(number: u32) {
-    io::print_decimal(STDOUT_FILENO, number as u64);
+pub fn print_first(rt: &impl Print, number: u32) -> io::Result<()> {
+    print!(rt; "{number}")
 }
 
-pub fn print_next(number: u32) {
-    io::write_all(STDOUT_FILENO, b" ");
-    print_first(number);
+pub fn print_next(rt: &impl Print, number: u32) -> io::Result<()> {
+    print!(rt; " {number}")
 }
 
-pub fn end_line() {
-    io::write_all(STDOUT_FILENO, b"\n");
+pub fn end_line(rt: &impl Print) -> io::Result<()> {
+    println!(rt;)
 }
 
 fn wide(byte: u8) -> u32 {
@@ -118,35 +128,33 @@ fn wide(byte: u8) -> u32 {
 
 // Takes one value of a buffer: prints it where the buffer is printed whole, and hands back the checksum with it in.
 // The checksum depends on every value and on their order.
-pub fn take(whole: bool, checksum: u32, value: u32) -> u32 {
+pub fn take(rt: &impl Print, whole: bool, checksum: u32, value: u32) -> io::Result<u32> {
     if whole {
-        print_next(value);
+        print_next(rt, value)?;
     }
-    ((checksum as u64 * 31 + value as u64) % 4294967291) as u32
+    Ok(((checksum as u64 * 31 + value as u64) % 4294967291) as u32)
 }
 
 // Prints a buffer whole, or its checksum.
-pub fn print_bytes(whole: bool, bytes: &[u8]) {
+pub fn print_bytes(rt: &impl Print, whole: bool, bytes: &[u8]) -> io::Result<()> {
     let mut checksum = 1;
-    let mut at = 0;
-    while at < bytes.len() {
-        checksum = take(whole, checksum, wide(bytes[at]));
-        at += 1;
+    for byte in bytes {
+        checksum = take(rt, whole, checksum, wide(*byte))?;
     }
     if !whole {
-        print_next(checksum);
+        print_next(rt, checksum)?;
     }
+    Ok(())
 }
 
 // The same of 32-bit numbers: log entries, or counts.
-pub fn print_numbers(whole: bool, numbers: &[u32]) {
+pub fn print_numbers(rt: &impl Print, whole: bool, numbers: &[u32]) -> io::Result<()> {
     let mut checksum = 1;
-    let mut at = 0;
-    while at < numbers.len() {
-        checksum = take(whole, checksum, numbers[at]);
-        at += 1;
+    for number in numbers {
+        checksum = take(rt, whole, checksum, *number)?;
     }
     if !whole {
-        print_next(checksum);
+        print_next(rt, checksum)?;
     }
+    Ok(())
 }

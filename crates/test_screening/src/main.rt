@@ -4,8 +4,9 @@
 // apart the places are and how many, and the value that is put there.
 #![tactic(auto)]
 
-use libc::STDOUT_FILENO;
 use screening::Report;
+use std::fs::File;
+use std::io;
 
 fn byte(bytes: &[u8], at: usize) -> u8 {
     test_records::byte(bytes, at) as u8
@@ -19,21 +20,20 @@ fn pattern_byte(pattern: &[u8], at: usize) -> u8 {
 }
 
 fn fill(run: &mut [u8], pattern: &[u8]) {
-    let mut at = 0;
-    while at < run.len() {
-        run[at] = pattern_byte(pattern, at);
-        at += 1;
+    for (at, place) in run.iter_mut().enumerate() {
+        *place = pattern_byte(pattern, at);
     }
 }
 
 // Writes a value into so many places, from the first on and so far apart, as far as the run goes.
 fn put(run: &mut [u8], first: usize, apart: usize, count: usize, value: u8) {
     let mut at = first;
-    let mut left = count;
-    while left > 0 && at < run.len() {
+    for _ in 0..count {
+        if at >= run.len() {
+            break;
+        }
         run[at] = value;
-        at = std::num::wrapping_add_usize(at, apart);
-        left -= 1;
+        at = at.wrapping_add(apart);
     }
 }
 
@@ -48,55 +48,57 @@ fn change(run: &mut [u8], record: &[u8; 42], at: u8) {
     );
 }
 
-fn print_report(report: Report) {
+fn print_report(rt: &impl Print, report: Report) -> io::Result<()> {
     match report {
-        Report::Start(start) => {
-            io::print_decimal(STDOUT_FILENO, start as u64);
-        }
-        Report::None => {
-            io::write_all(STDOUT_FILENO, b"none");
-        }
+        Report::Start(start) => println!(rt; "{start}"),
+        Report::None => println!(rt; "none"),
     }
-    test_records::end_line();
 }
 
 // Makes the run that a record and its pattern describe, and prints its report.
-fn answer(record: &[u8; 42], pattern: &[u8], run: &mut [u8]) {
+fn answer(rt: &impl Print, record: &[u8; 42], pattern: &[u8], run: &mut [u8]) -> io::Result<()> {
     fill(run, pattern);
     change(run, record, 6);
     change(run, record, 15);
     change(run, record, 24);
     change(run, record, 33);
-    print_report(screening::screen(run));
+    print_report(rt, screening::screen(run))
 }
 
 // Reads a record's pattern into the space, and answers it on a run of its length; false where the file is shorter.
-fn answer_pattern(file: i32, record: &[u8; 42], space: &mut [u8]) -> bool {
-    if !test_records::read(file, space) {
-        return false;
+fn answer_pattern(
+    rt: &impl Print,
+    file: &mut File,
+    record: &[u8; 42],
+    space: &mut [u8],
+) -> io::Result<bool> {
+    if !test_records::read(file, space)? {
+        return Ok(false);
     }
     let mut run = [0u8; 70000];
     let length = test_records::least(test_records::number(record, 0) as usize, 70000);
-    answer(record, space, &mut run[..length]);
-    true
+    answer(rt, record, space, &mut run[..length])?;
+    Ok(true)
 }
 
 // Reads and answers one record; false where the file holds no more.
-fn answer_next(file: i32) -> bool {
+fn answer_next(rt: &impl Print, file: &mut File) -> io::Result<bool> {
     let mut record = [0u8; 42];
-    if !test_records::read(file, &mut record) {
-        return false;
+    if !test_records::read(file, &mut record)? {
+        return Ok(false);
     }
     let mut space = [0u8; 5000];
     let length = test_records::least(test_records::length(&record, 4), 5000);
-    answer_pattern(file, &record, &mut space[..length])
+    answer_pattern(rt, file, &record, &mut space[..length])
 }
 
-// A proved loop has to end, so it counts down from more turns than any file of cases takes.
-fn main() {
-    let file = test_records::open();
-    let mut turns = u32::MAX;
-    while turns > 0 && answer_next(file) {
-        turns -= 1;
+// A proved loop has to end, so it has more turns than any file of cases takes.
+fn main(rt: HostRuntime) -> io::Result<()> {
+    let mut file = test_records::open(&rt)?;
+    for _ in 0..u32::MAX {
+        if !answer_next(&rt, &mut file)? {
+            break;
+        }
     }
+    Ok(())
 }

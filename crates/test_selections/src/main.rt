@@ -6,6 +6,8 @@
 
 use halves::Selection;
 use selection::Selected;
+use std::fs::File;
+use std::io;
 
 // A record's numbers.
 fn numbers(record: &[u8]) -> Selection {
@@ -23,16 +25,16 @@ fn numbers(record: &[u8]) -> Selection {
     }
 }
 
-fn print_reply(selected: Selected) {
-    test_records::print_first(selected.refusal);
-    test_records::print_next(selected.first);
-    test_records::print_next(selected.second);
-    test_records::print_next(selected.third);
-    test_records::print_next(selected.count);
+fn print_reply(rt: &impl Print, selected: Selected) -> io::Result<()> {
+    test_records::print_first(rt, selected.refusal)?;
+    test_records::print_next(rt, selected.first)?;
+    test_records::print_next(rt, selected.second)?;
+    test_records::print_next(rt, selected.third)?;
+    test_records::print_next(rt, selected.count)
 }
 
 // Makes the call without a log on filled places, and prints its refusal and what they then hold.
-fn print_plain(s: Selection) {
+fn print_plain(rt: &impl Print, s: Selection) -> io::Result<()> {
     let mut share0 = 90u8;
     let mut share1 = 90u8;
     let mut share2 = 90u8;
@@ -51,46 +53,48 @@ fn print_plain(s: Selection) {
         &mut share1,
         &mut share2,
     );
-    test_records::print_next(refusal);
-    test_records::print_next(share0 as u32);
-    test_records::print_next(share1 as u32);
-    test_records::print_next(share2 as u32);
+    test_records::print_next(rt, refusal)?;
+    test_records::print_next(rt, share0 as u32)?;
+    test_records::print_next(rt, share1 as u32)?;
+    test_records::print_next(rt, share2 as u32)
 }
 
 // Makes both calls, and prints their line.
-fn print_both(record: &[u8], log: &mut [u32]) {
+fn print_both(rt: &impl Print, record: &[u8], log: &mut [u32]) -> io::Result<()> {
     let s = numbers(record);
     let selected = selection::select(
         s.width, s.z0, s.z1, s.z2, s.c0, s.c1, s.c2, s.t1, s.t2, s.b, log,
     );
-    print_reply(selected);
-    print_plain(s);
-    test_records::print_numbers(test_records::byte(record, 42) == 1, log);
-    test_records::end_line();
+    print_reply(rt, selected)?;
+    print_plain(rt, s)?;
+    test_records::print_numbers(rt, test_records::byte(record, 42) == 1, log)?;
+    test_records::end_line(rt)
 }
 
 // Lends a filled log of the record's length, so that what a call writes and what it leaves can both be seen.
-fn answer(record: &[u8]) {
+fn answer(rt: &impl Print, record: &[u8]) -> io::Result<()> {
     let mut log = [2779096485u32; 64];
     let entries = test_records::least(test_records::length(record, 40), 64);
-    print_both(record, &mut log[..entries]);
+    print_both(rt, record, &mut log[..entries])
 }
 
 // Reads one record and answers it; false where the file holds no more.
-fn answer_next(file: i32) -> bool {
+fn answer_next(rt: &impl Print, file: &mut File) -> io::Result<bool> {
     let mut record = [0u8; 48];
-    if !test_records::read(file, &mut record) {
-        return false;
+    if !test_records::read(file, &mut record)? {
+        return Ok(false);
     }
-    answer(&record);
-    true
+    answer(rt, &record)?;
+    Ok(true)
 }
 
-// A proved loop has to end, so it counts down from more turns than any file of cases takes.
-fn main() {
-    let file = test_records::open();
-    let mut turns = u32::MAX;
-    while turns > 0 && answer_next(file) {
-        turns -= 1;
+// A proved loop has to end, so it has more turns than any file of cases takes.
+fn main(rt: HostRuntime) -> io::Result<()> {
+    let mut file = test_records::open(&rt)?;
+    for _ in 0..u32::MAX {
+        if !answer_next(&rt, &mut file)? {
+            break;
+        }
     }
+    Ok(())
 }

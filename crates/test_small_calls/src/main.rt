@@ -4,23 +4,25 @@
 #![tactic(auto)]
 
 use shares::{Joined, Shares};
+use std::fs::File;
+use std::io;
 
-fn print_shares(answer: Shares) {
-    test_records::print_first(answer.refusal);
-    test_records::print_next(answer.first);
-    test_records::print_next(answer.second);
-    test_records::print_next(answer.third);
-    test_records::end_line();
+fn print_shares(rt: &impl Print, answer: Shares) -> io::Result<()> {
+    test_records::print_first(rt, answer.refusal)?;
+    test_records::print_next(rt, answer.first)?;
+    test_records::print_next(rt, answer.second)?;
+    test_records::print_next(rt, answer.third)?;
+    test_records::end_line(rt)
 }
 
-fn print_joined(answer: Joined) {
-    test_records::print_first(answer.refusal);
-    test_records::print_next(answer.secret);
-    test_records::end_line();
+fn print_joined(rt: &impl Print, answer: Joined) -> io::Result<()> {
+    test_records::print_first(rt, answer.refusal)?;
+    test_records::print_next(rt, answer.secret)?;
+    test_records::end_line(rt)
 }
 
 // Makes a record's call with its first numbers.
-fn answer(bytes: &[u8]) {
+fn answer(rt: &impl Print, bytes: &[u8]) -> io::Result<()> {
     let rows = test_records::part(bytes, 41, test_records::byte(bytes, 40));
     let one = test_records::number(bytes, 4);
     let two = test_records::number(bytes, 8);
@@ -30,28 +32,33 @@ fn answer(bytes: &[u8]) {
     let six = test_records::number(bytes, 24);
     let seven = test_records::number(bytes, 28);
     match test_records::byte(bytes, 0) {
-        0 => print_shares(shares::split(one, two, three, four)),
-        1 => print_joined(shares::join(one, two, three, four)),
-        2 => print_shares(shares::add_key(one, two, three, four, five, six, seven)),
-        _ => print_shares(linear::linear_layer(one, two, rows, three, four, five, six)),
+        0 => print_shares(rt, shares::split(one, two, three, four)),
+        1 => print_joined(rt, shares::join(one, two, three, four)),
+        2 => print_shares(rt, shares::add_key(one, two, three, four, five, six, seven)),
+        _ => print_shares(
+            rt,
+            linear::linear_layer(one, two, rows, three, four, five, six),
+        ),
     }
 }
 
 // Reads one record and answers it; false where the file holds no more.
-fn answer_next(file: i32) -> bool {
+fn answer_next(rt: &impl Print, file: &mut File) -> io::Result<bool> {
     let mut record = [0u8; 64];
-    if !test_records::read(file, &mut record) {
-        return false;
+    if !test_records::read(file, &mut record)? {
+        return Ok(false);
     }
-    answer(&record);
-    true
+    answer(rt, &record)?;
+    Ok(true)
 }
 
-// A proved loop has to end, so it counts down from more turns than any file of cases takes.
-fn main() {
-    let file = test_records::open();
-    let mut turns = u32::MAX;
-    while turns > 0 && answer_next(file) {
-        turns -= 1;
+// A proved loop has to end, so it has more turns than any file of cases takes.
+fn main(rt: HostRuntime) -> io::Result<()> {
+    let mut file = test_records::open(&rt)?;
+    for _ in 0..u32::MAX {
+        if !answer_next(&rt, &mut file)? {
+            break;
+        }
     }
+    Ok(())
 }

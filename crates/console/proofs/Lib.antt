@@ -1,0 +1,2 @@
+-- What several reads take of an input together.
+pub mod Taken
