@@ -21,25 +21,26 @@ version = $(call part_of_version,MAJOR).$(call part_of_version,MINOR).$(call par
 # what is shown of long work counts from here
 export STARTED := $(shell date +%s)
 # rt's own words are kept, and shown where it fails
-rt_in = @mkdir -p target; .ci/progress target/$(1).log rt $(2) || { cat target/$(1).log; exit 1; }
+rt_in = @mkdir -p target; .ci/progress target/$(1).log $(2) || { cat target/$(1).log; exit 1; }
+# every program, those that only test included
+crates_of_programs = $(patsubst crates/%/src/main.rt,%,$(sort $(wildcard crates/*/src/main.rt)))
 
+# `rt all check` proves several crates at a time, `.ci/build` one
 all: ## proves every crate, builds the archive for C and the programs, and runs the programs
 	@.ci/tools rt
-	$(call rt_in,check,check)
-	$(call rt_in,lib,staticlib cippazhey)
+	$(call rt_in,check,rt all check)
+	$(call rt_in,lib,.ci/build archive cippazhey)
+	$(call rt_in,programs,.ci/build tried $(crates_of_programs))
 
-# `rt check` proves several crates at a time, `rt staticlib` one
 lib: ## target/staticlib/libcippazhey.a, whose header is include/cippazhey.h
 	@.ci/tools rt
-	$(call rt_in,check,check cippazhey)
-	$(call rt_in,lib,staticlib cippazhey)
+	$(call rt_in,lib,.ci/build archive cippazhey)
 
-# what a program prints of a sheet, both arguments; where the program is gone, it is linked again
+# what a program prints of a sheet, both arguments
 define print
 	@.ci/tools rt
 	@test -r $(2) || { echo 'there is no sheet $(2)'; exit 1; }
-	@test -x target/bin/$(1) || rm -f target/stamp/$(1)
-	$(call rt_in,$(1),check $(1))
+	$(call rt_in,$(1),.ci/build program $(1))
 	@target/bin/$(1) < $(2)
 endef
 
@@ -70,7 +71,7 @@ sbox: ## the S-box of FIPS 197, printed by the proved program
 audit: ## what the machine code does with the masks, an instruction at a time; x86-64 Linux only
 	@.ci/tools x86-64 rt cc objcopy objdump python3
 	@$(MAKE) --no-print-directory lib
-	$(call rt_in,logged,staticlib test_logged_export)
+	$(call rt_in,logged,.ci/build archive test_logged_export)
 	@.ci/progress target/audit.log tests/audit/run 9 || { grep -v ': ok$$' target/audit.log; exit 1; }
 	@cat target/audit/plain_2.log target/audit/plain_3.log target/audit/select.log target/audit/frame.log
 
@@ -78,7 +79,7 @@ speed: ## the tables of docs/PERFORMANCE.md
 	@.ci/tools x86-64 rt cc nm objdump size python3 valgrind
 	@tests/speed/run
 
-test: ## the gate: everything proved anew, every wrong edit tried, all tests and audits run. It begins by removing target/
+test: ## the gate: everything proved from nothing (what a run here proved and nothing changed counts), every wrong edit, test and audit
 	@.ci/run
 
 # blanks would be taken for ends of names, and this folder has a header of its own
@@ -100,8 +101,8 @@ uninstall: ## removes what `make install` puts there; takes the same PREFIX and 
 	$(folder_is_fit)
 	rm -f $(installed)
 
-clean: ## removes target/, all that was built
-	rm -rf target
+clean: ## removes target/ and out/ of each crate, all that was built and what is kept of proofs
+	rm -rf target crates/*/out
 
 help: ## this list
 	@sed -n 's/^\([a-z]*\):.*## \(.*\)/make \1|\2/p' Makefile | while IFS='|' read -r name text; do printf '%-15s %s\n' "$$name" "$$text"; done

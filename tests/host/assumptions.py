@@ -10,7 +10,7 @@ FOUND = [
     "axiom lost : ⊥",
     "axiom pub lost : ⊥",
     "  lost = ?",
-    "lost c = search ?needs",
+    "lost c = search ?rules",
     "lost c = f (?) x",
     "use Prim.Axiom.{lem}",
     "lost = lem _",
@@ -33,7 +33,8 @@ def complaints():
     for line in FINE:
         if assumed(line):
             yield f"found, and is fine: {line}"
-    files = sorted(CRATES.rglob("*.antt"))
+    # what rt makes of them stands in out/
+    files = [file for file in sorted(CRATES.rglob("*.antt")) if file.relative_to(CRATES).parts[1] != "out"]
     if len(files) < 100:
         yield f"only {len(files)} files of antt were read"
     for file in files:

@@ -1,6 +1,9 @@
 # Holds the number of each loop over a table, its scratch or its counts to 16 bits. No contract can see that: a wider number would be proved
-# too. What `rt mir` prints of an archive is read, where every number has its width.
-# Run: python3 tests/host/loop_numbers.py FILE.., the MIR of all archives. The status is 0 if every loop is as it must be.
+# too. The code of the libraries is read that the archives stand on (mir.py), where every number has its width, and the source of the
+# archives' own functions, of which rt keeps no such code: they have no loop.
+# Run: python3 tests/host/loop_numbers.py MIR SOURCE.., what mir.py prints and the sources of the archives. The status is 0 if every loop is
+# as it must be.
+import json
 import re
 import sys
 from pathlib import Path
@@ -27,64 +30,97 @@ OTHERS = {
     "table::fitness::all_periods": "the bits of a value",
     "log_entries::put": "the kinds and values of a row, slices of any length",
     "buffers::clear": "a buffer of any length",
+    "buffers::clear_numbers": "a buffer of any length, in no archive",
+    "refusals::any_byte_from": "bytes of any length, in no archive",
+    "refusals::any_number_from": "numbers of any length, in no archive",
     "frame_rounds::ten": "the rounds",
     "screening::fed": "a run of any length",
 }
 
 
-# A text of the form (word (word ..) ..), as lists in a list.
-def parsed(text):
-    open_lists = [[]]
-    for word in re.findall(r'"[^"]*"|[()]|[^\s()]+', text):
-        if word == "(":
-            open_lists.append([])
-        elif word == ")":
-            open_lists[-2].append(open_lists.pop())
-        else:
-            open_lists[-1].append(word.strip('"'))
-    return open_lists[0]
+# A function's statements as a tree, from the list that has each of them before those that it is made of.
+def tree(statements):
+    waiting = iter(statements)
+
+    def next_one():
+        statement = next(waiting)
+        word = statement if isinstance(statement, str) else next(iter(statement))
+        return [statement, *(next_one() for _ in range(parts_of(word, statement)))]
+
+    whole = next_one()
+    if next(waiting, None) is not None:
+        raise ValueError("there are statements behind the last")
+    return whole
 
 
-# The lists in a list, at any depth, that begin with a word.
-def parts(term, word):
+SIMPLE = {"Assign", "Call", "Exit", "LendStatic", "Return", "Skip", "Unreachable"}
+
+
+# Of how many statements one is made; it is an error where it is not known what it does.
+def parts_of(word, statement):
+    if word == "Switch":
+        _, branches, has_rest = statement[word]
+        return len(branches) + has_rest
+    return {"Seq": 2, "If": 2, "Block": 1, "Loop": 1, **dict.fromkeys(SIMPLE, 0)}[word]
+
+
+# The pieces of a term, itself among them, at any depth.
+def pieces(term):
     waiting = [term]
     while waiting:
-        part = waiting.pop()
-        if part[:1] == [word]:
-            yield part
-        waiting.extend(inner for inner in part if isinstance(inner, list))
+        piece = waiting.pop()
+        yield piece
+        if isinstance(piece, dict | list):
+            waiting.extend(piece.values() if isinstance(piece, dict) else piece)
+
+
+# What the pieces of a kind say.
+def parts(term, word):
+    return [piece[word] for piece in pieces(term) if isinstance(piece, dict) and word in piece]
+
+
+def loops(statement):
+    return [piece for piece in pieces(statement) if isinstance(piece, list) and piece[:1] == ["Loop"]]
 
 
 # What a loop compares before each turn: the first operand of its first statement, a test whether one number is less than another.
 def compared(loop):
     statement = loop[1]
-    while statement[0] == "seq":
+    while statement[0] == "Seq":
         statement = statement[1]
-    if statement[0] == "assign" and statement[2][:2] == ["op2", ["lt", "unsigned"]]:
-        return statement[2][2]
+    for _, value in parts(statement[:1], "Assign"):
+        if "Op2" in value and value["Op2"][0] == {"Lt": "Unsigned"}:
+            return value["Op2"][1]
     return None
 
 
 # Each local that a loop counts up or down: the operation, the local and the amount.
 def steps(loop):
-    return [value[1:] for _, place, value in parts(loop, "assign") if value[0] == "op2" and counts(value[1]) and value[2] == ["copy", place]]
+    sums = [(place, value["Op2"]) for place, value in parts(loop, "Assign") if "Op2" in value]
+    return [value for place, value in sums if counts(value[0]) and value[1] == {"Copy": place}]
 
 
 def counts(operation):
-    return operation[0] in ("add", "sub")
+    return isinstance(operation, dict) and bool({"Add", "Sub"} & operation.keys())
 
 
 # The loop adds 1 to what it compares, and counts nothing else. Operands have one width, so the 1 tells the number's.
 def has_number_of_16_bits(loop):
-    return steps(loop) == [[["add", "unsigned"], compared(loop), ["int", "16", "1"]]]
+    return steps(loop) == [[{"Add": "Unsigned"}, compared(loop), {"Int": {"width": 16, "value": 1}}]]
 
 
-def complaints(text):
+def called(function):
+    return {name for name, _ in parts(function, "Fn")}
+
+
+# Of the libraries' functions, by their names.
+def complaints(functions):
     looping = set()
-    for _, name, function, *_ in parts(parsed(text), "fn-def"):
-        if ["fnRef", name] in parts(function, "fnRef"):
+    for name, function in functions.items():
+        if name in called(function):
             yield f"{name}: it calls itself"
-        for loop in parts(function, "loop"):
+        yield from (f"{name}: it calls {other}, which is not read" for other in sorted(called(function) - functions.keys()))
+        for loop in loops(tree(function["body"])):
             looping.add(name)
             if name in OVER_TABLES and not has_number_of_16_bits(loop):
                 yield f"{name}: a loop that does not count by 1 in 16 bits, or counts something else too"
@@ -92,8 +128,21 @@ def complaints(text):
     yield from (f"{name}: no loop" for name in sorted((OVER_TABLES | OTHERS.keys()) - looping))
 
 
+# Of an archive's own functions.
+def complaints_of_source(file):
+    text = re.sub("//.*", "", file.read_text())
+    for word in re.findall(r"\b(while|for|loop|iter\w*)\b", text):
+        yield f"{file}: {word}, in an archive's own function"
+    for name in re.findall(r"\bfn (\w+)", text):
+        if len(re.findall(rf"(?<!::)\b{name}\(", text)) != 1:
+            yield f"{file}: {name}, which is called here"
+
+
 def main():
-    found = list(complaints(" ".join(Path(file).read_text() for file in sys.argv[1:])))
+    libraries = [json.loads(line) for line in Path(sys.argv[1]).read_text().splitlines()]
+    found = list(complaints({name: function for library in libraries for name, function in library}))
+    for file in sys.argv[2:]:
+        found += complaints_of_source(Path(file))
     print("\n".join(found))
     sys.exit(1 if found else 0)
 

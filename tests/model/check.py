@@ -22,7 +22,7 @@ import check_tables
 PARTS = {
     "methods": (check_methods,),
     "editions": (check_print, check_conversion),
-    "model": (check_small, check_print, check_calls, check_tables, check_methods, check_leaks, check_page),
+    "model": (check_small, check_print, check_calls, check_tables, check_page, check_methods, check_leaks),
     "page": (check_page,),
     "conversion": (check_conversion,),
     "counts": (check_counts,),

@@ -78,7 +78,7 @@ WAYS = ("checks", "cases", "groups")
 TRIED = {
     "methods": (86, 86, 19),
     "editions": (57, 57, 3),
-    "model": (341, 179, 0),
+    "model": (356, 194, 0),
     "page": (154, 154, 15),
     "conversion": (34, 34, 6),
     "counts": (120, 26, 0),

@@ -3,7 +3,8 @@
 from collections import Counter
 
 import editions
-from model import kind_of, sheet_call, value_of
+import model
+from model import kind_of, value_of
 
 PER_LINE = 5
 WIDTH = 80
@@ -33,7 +34,7 @@ def total_line(log):
 
 # What the program `page` writes for an input: the page, or a refusal's number alone.
 def page(text):
-    refusal, _, log = sheet_call(text)
+    refusal, _, log = model.sheet_call(text)
     if refusal:
         return editions.print_line(refusal)
     lines = [*entry_lines(log), *kind_lines(log), total_line(log)]
