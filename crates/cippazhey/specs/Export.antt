@@ -2,7 +2,7 @@
 -- number.
 use Rattle.std.specs.Prelude.{List, [], ◌∷◌, ℕ, ◌+◌, ◌-◌, ◌*◌, ◌^◌}
 use Rattle.refusals.specs.Left.{left}
-use Rattle.lookup.specs.declared.Called.{Called}
+use Rattle.lookup.specs.Called.{Called}
 use Rattle.aes.specs.State.{State}
 use Rattle.frame_lookups.specs.Shares.{share}
 use Rattle.frame_rounds.specs.Rounds.{frame_shares}
