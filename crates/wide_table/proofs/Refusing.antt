@@ -28,10 +28,11 @@ too_large m table h w =
 pub power_known : (n : ℕ) (t : Bool) → t ≡ outside 1 8 n → t ≡ false → n < 32
 power_known n t e h = omega (arith, (inside 1 8 n (sym e ∙ h)).1)
 
-module _ (method n m : ℕ) (table : List ℕ) (w : Bool) (told : w ≡ any_from 256 (map (λ x. x) table)) where
-  looked : w ≡ any_from 256 table
-  looked = told ∙ ap (any_from 256) (map-id table)
+-- what the look for such an entry told
+pub told_wide : (table : List ℕ) (w : Bool) → w ≡ any_from 256 (map (λ x. x) table) → w ≡ any_from 256 table
+told_wide table w e = e ∙ ap (any_from 256) (map-id table)
 
+module _ (method n m : ℕ) (table : List ℕ) (w : Bool) (looked : w ≡ any_from 256 table) where
   pub at_none : not w ≡ true → 0 ≡ wide_refusal method n m table
   unfolding wide_refusal wide
   at_none h = rw (sym looked ∙ not-true w h)
