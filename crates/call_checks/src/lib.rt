@@ -125,11 +125,9 @@ fn dirty(scratch: &[u8], size: u16) -> bool
     ensures { result ≡ refusals_dirty size scratch.now }
 {
     let mut cells: [u8; 2] = [0, 0];
-    let mut i: u16 = 0;
-    while i < size {
+    for i in 0..size {
         let at = cell(scratch[i as usize]);
         cells[at] = 1;
-        i += 1;
     }
     cells[1] != 0
 }

@@ -42,12 +42,10 @@ fn tally(table: &[u8], counts: &mut [u16; 256]) -> u8
 {
     let size = table.len() as u16;
     let mut joined = 0;
-    let mut i: u16 = 0;
-    while i < size {
+    for i in 0..size {
         let entry = table[i as usize];
         counts[entry as usize] += 1;
         joined |= entry;
-        i += 1;
     }
     joined
 }
