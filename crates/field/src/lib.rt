@@ -76,6 +76,7 @@ fn print_front(output: &mut [u8], at: usize, columns: usize, value: u32)
 }
 
 // The last digit of what is left of a number, or a space where nothing is left.
+#[tactic(auto, unfolding(crate::specs::Printed::mark))]
 fn mark(left: u32) -> u8
     ensures { result ≡ printed_mark left }
 {
