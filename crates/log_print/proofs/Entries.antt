@@ -7,7 +7,7 @@ use lib.ListN.{length, get_or, length-append}
 use Rattle.buffers.specs.Written.{written, in_front}
 use Rattle.buffers.proofs.Written.{written_more, written_front}
 use Rattle.buffers.proofs.Blocks.{blocks, numbered_blocks, blocks_long}
-use Rattle.buffers.proofs.Blocks.{Stacking, stacking_begins, stacking_room, stacking_turns, stacking_ends}
+use Rattle.buffers.proofs.Blocks.{Stacking, stacking_begins, stacking_turns, stacking_ends}
 use Rattle.lookup.specs.Entry.{kind_of, value_of}
 use Rattle.log_print.specs.Lines.{line_of, entry_lines, answer_lines}
 use Rattle.log_print.proofs.Lines.{line_long}
@@ -37,10 +37,6 @@ module _ (first : ℕ) (log before : List ℕ) where
   listing_begins = record { stack = stacking_begins 0 19 (length log) (entry_at 6 first log) before }
 
   module _ (now : List ℕ) (i : ℕ) (room : 19 * length log ≤ length before) (s : Listing first log before now i) where
-    -- a line has its place in the output
-    pub listing_room : i < length log → 19 * i + 19 ≤ length now
-    listing_room h = omega (arith, stacking_room 0 19 _ (entry_at 6 first log) before now i s.stack h (omega arith))
-
     pub listing_turns : (next : List ℕ) → i < length log → next ≡ written now (19 * i) (entry_at 6 first log i)
         → Listing first log before next (i + 1)
     listing_turns next h e =
@@ -69,9 +65,3 @@ pub answer_long : (log : List ℕ) (share count : ℕ) → 19 * length log + 19 
 unfolding answer_lines
 answer_long log share count =
     sym (length-append (entry_lines 6 0 log) _ ∙ omega (arith, entries_long 0 log, line_19 0 share count))
-
--- a line of an entry that was taken apart
-pub entry_line : (before now : List ℕ) (at position entry kind value : ℕ) → kind ≡ kind_of entry → value ≡ value_of entry
-    → now ≡ written before at (line_of 6 (position ∷ kind ∷ value ∷ []))
-    → now ≡ written before at (line_of 6 (position ∷ kind_of entry ∷ value_of entry ∷ []))
-entry_line before now at position entry kind value k v e = e ∙ rw (k, v)

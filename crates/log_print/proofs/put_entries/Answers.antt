@@ -1,11 +1,8 @@
-use Rattle.log_print.proofs.Entries.{listing_begins, listing_turns, listing_ends, listing_room}
+use Rattle.log_print.proofs.Entries.{listing_begins, listing_turns, listing_ends}
 use Rattle.log_print.proofs.put_entries.Goals as goal
 
 pub loop-i-init : goal.loop-i-init
 loop-i-init c = search listing_begins
-
-pub put_entry-requires : goal.put_entry-requires
-put_entry-requires c = search listing_room
 
 -- the search would go through every step, so the facts are named: what the call told, the loop's test, and the function's own `requires`
 pub loop-i-preserved : goal.loop-i-preserved
