@@ -6,7 +6,7 @@ use native.Mathlib.Omega.{arith}
 use lib.ListN.{length, get_or}
 use Rattle.buffers.specs.Written.{written}
 use Rattle.buffers.proofs.Blocks.{blocks, blocks_front, blocks_long}
-use Rattle.buffers.proofs.Blocks.{Stacking, stacking_begins, stacking_turns, stacking_ends}
+use Rattle.buffers.proofs.Blocks.{Stacking, stacking_turns, stacking_ends}
 use Rattle.log_print.specs.Lines.{line_of, column_of}
 use Rattle.log_print.proofs.Lines.{line_long}
 
@@ -32,9 +32,6 @@ abbrev pub Lining : (columns at : ℕ) → (numbers before now : List ℕ) → (
 Lining columns at numbers before now i = Stacking at (columns + 1) (length numbers) (line_at columns numbers) before now i
 
 module _ (columns at : ℕ) (numbers before : List ℕ) (room : at + length numbers * (columns + 1) ≤ length before) where
-  pub lining_begins : Lining columns at numbers before before 0
-  lining_begins = stacking_begins at (columns + 1) (length numbers) (line_at columns numbers) before
-
   module _ (now : List ℕ) (i : ℕ) (f : Lining columns at numbers before now i) where
     pub lining_turns : (after : List ℕ) → i < length numbers
         → after ≡ written now (at + i * (columns + 1)) (line_of columns (get_or numbers i 0 ∷ []))

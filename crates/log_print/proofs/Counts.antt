@@ -8,7 +8,7 @@ use lib.Seq.{length-take-le}
 use Rattle.buffers.specs.Written.{written, in_front}
 use Rattle.buffers.proofs.Written.{written_front}
 use Rattle.buffers.proofs.Blocks.{once_more_within, blocks, blocks_long}
-use Rattle.buffers.proofs.Blocks.{Stacking, stacking_begins, stacking_turns, stacking_ends}
+use Rattle.buffers.proofs.Blocks.{Stacking, stacking_turns, stacking_ends}
 use Rattle.log_print.specs.Lines.{line_of, count_lines}
 use Rattle.log_print.proofs.Lines.{line_long}
 
@@ -37,9 +37,6 @@ Rows side counts before now u = Stacking 0 (8 * side + 1) side (row_at side coun
 module _ (side : ℕ) (counts before : List ℕ) (square : length counts ≡ side * side) (room : side * (8 * side + 1) ≤ length before) where
   enough : 0 + side * (8 * side + 1) ≤ length before
   enough = omega arith
-
-  pub rows_begin : Rows side counts before before 0
-  rows_begin = stacking_begins 0 (8 * side + 1) side (row_at side counts) before
 
   module _ (now : List ℕ) (u : ℕ) (r : Rows side counts before now u) where
     pub rows_turn : (next : List ℕ) → u < side

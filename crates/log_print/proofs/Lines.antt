@@ -7,7 +7,7 @@ use lib.ListN.{length, get_or, set, length-append}
 use Rattle.buffers.specs.Written.{written, in_front}
 use Rattle.buffers.proofs.Written.{written_more, written_front, set_written}
 use Rattle.buffers.proofs.Blocks.{blocks, blocks_front, blocks_long}
-use Rattle.buffers.proofs.Blocks.{Stacking, stacking_begins, stacking_turns, stacking_ends}
+use Rattle.buffers.proofs.Blocks.{Stacking, stacking_turns, stacking_ends}
 use Rattle.field.specs.Printed.{printed}
 use Rattle.field.proofs.Printing.{printed_long}
 use Rattle.log_print.specs.Lines.{line_of}
@@ -35,9 +35,6 @@ abbrev pub Filling : (columns at : ℕ) → (numbers before now : List ℕ) → 
 Filling columns at numbers before now i = Stacking at columns (length numbers) (number_at columns numbers) before now i
 
 module _ (columns at : ℕ) (numbers before : List ℕ) (room : at + length numbers * columns < length before) where
-  pub filling_begins : Filling columns at numbers before before 0
-  filling_begins = stacking_begins at columns (length numbers) (number_at columns numbers) before
-
   module _ (now : List ℕ) (i : ℕ) (f : Filling columns at numbers before now i) where
     enough : at + length numbers * columns ≤ length before
     enough = omega arith

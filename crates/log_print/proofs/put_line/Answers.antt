@@ -1,9 +1,10 @@
 -- `log_print::put_line` meets its contract.
-use Rattle.log_print.proofs.Lines.{filling_begins, filling_turns, filling_ends}
+use Rattle.buffers.proofs.Blocks.{stacking_begins}
+use Rattle.log_print.proofs.Lines.{filling_turns, filling_ends}
 use Rattle.log_print.proofs.put_line.Goals as goal
 
 pub loop-i-init : goal.loop-i-init
-loop-i-init c = search filling_begins
+loop-i-init c = stacking_begins _ _ _ _ _
 
 pub loop-i-preserved : goal.loop-i-preserved
 loop-i-preserved c = search filling_turns
