@@ -1,19 +1,16 @@
 -- A case sheet: a case line of so many fields, ten for the bench and six for the counts, then at most 256 lines of one field, a table entry.
 -- The edition says how many columns a field has and how large its number may be. Each line is ended by a line feed (10).
-use Rattle.std.specs.Prelude.{Bool, true, false, ◌&&◌, not, cond, List, [], ◌∷◌, ℕ, zero, suc, ◌+◌, ◌*◌, eqb, length, get_or, take, drop}
+use Rattle.std.specs.Prelude.{Bool, true, false, ◌&&◌, not, cond, List, [], ◌∷◌, ℕ, zero, suc, ◌+◌, ◌*◌, eqb, length, get_or, take, drop, Option, Some, None}
 use Rattle.lookup.specs.declared.Case.{Case}
-use Rattle.field.specs.declared.Field.{Field}
-use Rattle.field.specs.declared.Field.TheVariants.{Number, Malformed}
 use Rattle.field.specs.Field.{field_of}
 use Rattle.case_sheet.specs.declared.Edition.{Edition}
-use Rattle.case_sheet.specs.declared.Lines.{Lines}
 use Rattle.case_sheet.specs.declared.Sheet.{Sheet}
 use Rattle.case_sheet.specs.Edition.{six_columns}
 
 -- the field in front; where it is a line, a line feed stands behind it
-unfoldable pub item : Edition → (line : Bool) → List ℕ → Field
+unfoldable pub item : Edition → (line : Bool) → List ℕ → Option ℕ
 item edition line bytes =
-    cond (line && not (eqb (get_or bytes edition.columns 0) 10)) Malformed
+    cond (line && not (eqb (get_or bytes edition.columns 0) 10)) None
     (field_of edition.columns edition.most (take edition.columns bytes))
 
 -- the bytes of a field, with its line feed where it is a line
@@ -21,9 +18,9 @@ unfoldable pub size : Edition → (line : Bool) → ℕ
 size edition line = cond line (edition.columns + 1) edition.columns
 
 -- a number in front of others, or no number and so no others
-unfoldable pub before : Field → List ℕ → List ℕ
-before (Number value) values = value ∷ values
-before Malformed values = []
+unfoldable pub before : Option ℕ → List ℕ → List ℕ
+before (Some value) values = value ∷ values
+before None values = []
 
 -- the numbers of the fields or lines in front, at most so many
 unfoldable pub leading : Edition → (line : Bool) → (at_most : ℕ) → List ℕ → List ℕ
@@ -46,13 +43,9 @@ unfoldable pub well_formed : Edition → (fields : ℕ) → List ℕ → Bool
 well_formed edition fields input =
     complete edition fields (length (numbers_of edition fields input)) (length (table_of edition fields input)) input
 
-unfoldable pub other_form : Lines
-other_form = record { malformed = true; entries = 0 }
-
--- whether the input is malformed, and how many table lines it has
-unfoldable pub lines_of : Edition → (fields : ℕ) → List ℕ → Lines
-lines_of edition fields input =
-    cond (well_formed edition fields input) (record { malformed = false; entries = length (table_of edition fields input) }) other_form
+-- how many table lines the input has, if it is not malformed
+unfoldable pub lines_of : Edition → (fields : ℕ) → List ℕ → Option ℕ
+lines_of edition fields input = cond (well_formed edition fields input) (Some (length (table_of edition fields input))) None
 
 -- the numbers of the bench's case line in their order
 unfoldable pub case_read : List ℕ → Case
@@ -70,15 +63,8 @@ case_read numbers =
       b = get_or numbers 9 0;
     }
 
-unfoldable pub accepted : (numbers : List ℕ) → (entries : ℕ) → Sheet
-accepted numbers entries = record { malformed = false; case = case_read numbers; entries = entries }
-
--- an input of another form: every number is 0
-unfoldable pub refused : Sheet
-refused = record { malformed = true; case = case_read []; entries = 0 }
-
--- the bench reads six columns
-unfoldable pub sheet_of : List ℕ → Sheet
+-- the bench reads six columns; there is no sheet where the input is malformed
+unfoldable pub sheet_of : List ℕ → Option Sheet
 sheet_of input =
     cond (well_formed six_columns 10 input)
-    (accepted (numbers_of six_columns 10 input) (length (table_of six_columns 10 input))) refused
+    (Some (record { case = case_read (numbers_of six_columns 10 input); entries = length (table_of six_columns 10 input) })) None

@@ -8,8 +8,7 @@ use native.Mathlib.Omega.{arith}
 use borrow.Author.Tests.{lt-ltb, eq-eqb, ne_eqb, eqb-true, eqb-false}
 use lib.Dec.{eqb, leb}
 use lib.ListN.{length, drop}
-use Rattle.field.specs.declared.Field.{Field}
-use Rattle.field.specs.declared.Field.TheVariants.{Number, Malformed}
+use Rattle.std.specs.Prelude.{Option, Some, None}
 use Rattle.field.specs.Field.{digit, decimal, number, spaces, up_to, field_of}
 use Rattle.field.specs.Printed.{mark, front, printed}
 use Rattle.field.specs.Promises.{WrittenOnce}
@@ -27,18 +26,18 @@ unfolding front mark
 front_more columns u d h z = let parts = tens u d h in rw (parts.0, parts.1, ne_eqb (u * 10 + d) 0 (omega arith))
 
 -- a digit that is read: its byte, and what is read on
-digit_read : (u byte : ℕ) (bytes : List ℕ) (value : ℕ) → decimal u (byte ∷ bytes) ≡ Number value
-    → (48 ≤ byte) × (byte ≤ 57) × (decimal (u * 10 + (byte - 48)) bytes ≡ Number value)
+digit_read : (u byte : ℕ) (bytes : List ℕ) (value : ℕ) → decimal u (byte ∷ bytes) ≡ Some value
+    → (48 ≤ byte) × (byte ≤ 57) × (decimal (u * 10 + (byte - 48)) bytes ≡ Some value)
 unfolding decimal
 digit_read u byte bytes value e = digit_read_by_cases (digit byte) refl e
   where
-    digit_read_by_cases : (t : Bool) → digit byte ≡ t → cond t (decimal (u * 10 + (byte - 48)) bytes) Malformed ≡ Number value
-        → (48 ≤ byte) × (byte ≤ 57) × (decimal (u * 10 + (byte - 48)) bytes ≡ Number value)
+    digit_read_by_cases : (t : Bool) → digit byte ≡ t → cond t (decimal (u * 10 + (byte - 48)) bytes) None ≡ Some value
+        → (48 ≤ byte) × (byte ≤ 57) × (decimal (u * 10 + (byte - 48)) bytes ≡ Some value)
     digit_read_by_cases true q e = (digit_low byte q, digit_high byte q, e)
     digit_read_by_cases false q e = let z : ◌≡◌ {A = ℕ} 0 1 = cc in absurd (omega arith)
 
 -- digits behind what is left of a number, and how large it is with them
-decimal_front : (columns u : ℕ) (bytes : List ℕ) (value : ℕ) → 0 < u → decimal u bytes ≡ Number value
+decimal_front : (columns u : ℕ) (bytes : List ℕ) (value : ℕ) → 0 < u → decimal u bytes ≡ Some value
     → (front (columns + length bytes) value ≡ front columns u ++ bytes) × (0 < value) × (value < (u + 1) * 10 ^ length bytes)
 unfolding decimal
 decimal_front columns u [] value z e =
@@ -65,16 +64,16 @@ printed_front zero value z = refl
 printed_front (suc columns) value z = rw (ne_eqb value 0 (omega arith))
 
 -- NUMBERS
-one_digit_once : (byte value : ℕ) → decimal 0 (byte ∷ []) ≡ Number value → (printed 1 value ≡ byte ∷ []) × (value < 10)
+one_digit_once : (byte value : ℕ) → decimal 0 (byte ∷ []) ≡ Some value → (printed 1 value ≡ byte ∷ []) × (value < 10)
 unfolding decimal printed front
 one_digit_once byte value e =
     let read = digit_read 0 byte [] value e in
-    let found : Number (0 + (byte - 48)) ≡ Number value = read.2 in
+    let found : Some (0 + (byte - 48)) ≡ Some value = read.2 in
     let same : 0 + (byte - 48) ≡ value = cc in
     let last : 48 + value % 10 ≡ byte = omega (arith, read.0, read.1) in
     (ap (λ b. b ∷ []) last, omega (arith, read.1))
 
-digits_once : (byte : ℕ) (bytes : List ℕ) (value : ℕ) → (byte ≡ 48 → ⊥) → decimal 0 (byte ∷ bytes) ≡ Number value
+digits_once : (byte : ℕ) (bytes : List ℕ) (value : ℕ) → (byte ≡ 48 → ⊥) → decimal 0 (byte ∷ bytes) ≡ Some value
     → (printed (suc (length bytes)) value ≡ byte ∷ bytes) × (value < 10 ^ suc (length bytes))
 unfolding front
 digits_once byte bytes value h e =
@@ -91,18 +90,18 @@ digits_once byte bytes value h e =
     = sym (printed_front (suc (length bytes)) value rest.1) ∙ ap (λ k. front k value) columns ∙ rest.0 ∙ ap (λ l. l ++ bytes) one in
     (same, omega (arith, rest.2, large, power))
 
-number_once : (bytes : List ℕ) (value : ℕ) → number bytes ≡ Number value → (printed (length bytes) value ≡ bytes) × (value < 10 ^ length bytes)
+number_once : (bytes : List ℕ) (value : ℕ) → number bytes ≡ Some value → (printed (length bytes) value ≡ bytes) × (value < 10 ^ length bytes)
 unfolding number
 number_once [] value e = let z : ◌≡◌ {A = ℕ} 0 1 = cc in absurd (omega arith)
 number_once (byte ∷ []) value e = one_digit_once byte value (one_by_cases (eqb byte 48) e)
   where
-    one_by_cases : (t : Bool) → cond (t && false) Malformed (decimal 0 (byte ∷ [])) ≡ Number value → decimal 0 (byte ∷ []) ≡ Number value
+    one_by_cases : (t : Bool) → cond (t && false) None (decimal 0 (byte ∷ [])) ≡ Some value → decimal 0 (byte ∷ []) ≡ Some value
     one_by_cases true e = e
     one_by_cases false e = e
 number_once (byte ∷ next ∷ bytes) value e =
     number_once_by_cases (eqb byte 48) refl (rw (lt-ltb 0 (length (next ∷ bytes)) (omega arith)) at e)
   where
-    number_once_by_cases : (t : Bool) → eqb byte 48 ≡ t → cond (t && true) Malformed (decimal 0 (byte ∷ next ∷ bytes)) ≡ Number value
+    number_once_by_cases : (t : Bool) → eqb byte 48 ≡ t → cond (t && true) None (decimal 0 (byte ∷ next ∷ bytes)) ≡ Some value
         → (printed (suc (suc (length bytes))) value ≡ byte ∷ next ∷ bytes) × (value < 10 ^ suc (suc (length bytes)))
     number_once_by_cases true q e = let z : ◌≡◌ {A = ℕ} 0 1 = cc in absurd (omega arith)
     number_once_by_cases false q e = digits_once byte (next ∷ bytes) value (eqb-false _ _ q) e
@@ -120,19 +119,19 @@ printed_space zero value z h = absurd (omega arith)
 printed_space (suc columns) value z h = ap (λ l. l ++ ((48 + value % 10) ∷ [])) (front_space columns (value / 10) (tenth columns value h))
 
 -- a number has columns
-some_columns : (bytes : List ℕ) (value : ℕ) → number (drop (spaces bytes) bytes) ≡ Number value → 0 < length bytes
+some_columns : (bytes : List ℕ) (value : ℕ) → number (drop (spaces bytes) bytes) ≡ Some value → 0 < length bytes
 unfolding number spaces
 some_columns [] value e = let z : ◌≡◌ {A = ℕ} 0 1 = cc in absurd (omega arith)
 some_columns (byte ∷ bytes) value e = omega arith
 
-field_once : (bytes : List ℕ) (value : ℕ) → number (drop (spaces bytes) bytes) ≡ Number value
+field_once : (bytes : List ℕ) (value : ℕ) → number (drop (spaces bytes) bytes) ≡ Some value
     → (printed (length bytes) value ≡ bytes) × (value < 10 ^ length bytes)
 unfolding spaces
 field_once [] value e = number_once [] value e
 field_once (byte ∷ bytes) value e = field_once_by_cases (eqb byte 32) refl e (field_once bytes value)
   where
-    field_once_by_cases : (t : Bool) → eqb byte 32 ≡ t → number (drop (cond t (suc (spaces bytes)) 0) (byte ∷ bytes)) ≡ Number value
-        → (number (drop (spaces bytes) bytes) ≡ Number value → (printed (length bytes) value ≡ bytes) × (value < 10 ^ length bytes))
+    field_once_by_cases : (t : Bool) → eqb byte 32 ≡ t → number (drop (cond t (suc (spaces bytes)) 0) (byte ∷ bytes)) ≡ Some value
+        → (number (drop (spaces bytes) bytes) ≡ Some value → (printed (length bytes) value ≡ bytes) × (value < 10 ^ length bytes))
         → (printed (suc (length bytes)) value ≡ byte ∷ bytes) × (value < 10 ^ suc (length bytes))
     field_once_by_cases false q e more = number_once (byte ∷ bytes) value e
     field_once_by_cases true q e more =
@@ -142,12 +141,12 @@ field_once (byte ∷ bytes) value e = field_once_by_cases (eqb byte 32) refl e (
         (printed_space (length bytes) value (some_columns bytes value e) rest.1 ∙ rw (rest.0, space), omega (arith, rest.1, power))
 
 -- the number of a field whose bound is put aside
-unbounded : (most : ℕ) (found : Field) (value : ℕ) → up_to most found ≡ Number value → found ≡ Number value
+unbounded : (most : ℕ) (found : Option ℕ) (value : ℕ) → up_to most found ≡ Some value → found ≡ Some value
 unfolding up_to
-unbounded most Malformed value e = let z : ◌≡◌ {A = ℕ} 0 1 = cc in absurd (omega arith)
-unbounded most (Number v) value e = unbounded_by_cases (leb v most) e
+unbounded most None value e = let z : ◌≡◌ {A = ℕ} 0 1 = cc in absurd (omega arith)
+unbounded most (Some v) value e = unbounded_by_cases (leb v most) e
   where
-    unbounded_by_cases : (t : Bool) → cond t (Number v) Malformed ≡ Number value → Number v ≡ Number value
+    unbounded_by_cases : (t : Bool) → cond t (Some v) None ≡ Some value → Some v ≡ Some value
     unbounded_by_cases true e = e
     unbounded_by_cases false e = let z : ◌≡◌ {A = ℕ} 0 1 = cc in absurd (omega arith)
 
@@ -155,5 +154,5 @@ pub written_once : WrittenOnce
 unfolding WrittenOnce field_of
 written_once columns most value bytes e =
     let long : length bytes ≡ columns = (number_found columns most bytes value e).0 in
-    let found : up_to most (number (drop (spaces bytes) bytes)) ≡ Number value = rw (eq-eqb _ _ long) at e in
+    let found : up_to most (number (drop (spaces bytes) bytes)) ≡ Some value = rw (eq-eqb _ _ long) at e in
     rw (sym long) (field_once bytes value (unbounded most _ value found)).0

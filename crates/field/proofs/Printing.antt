@@ -45,9 +45,6 @@ pub record Printing (before now : List ℕ) (at columns value i left : ℕ) : Ty
   pub within : i ≤ columns
   pub long : length now ≡ length before
 
-pub printing_begins : (before : List ℕ) (at columns value : ℕ) → Printing before before at columns value columns value
-printing_begins before at columns value = record { rest = refl; within = omega arith; long = refl }
-
 pub printing_turns : (before now : List ℕ) (at columns value i left m : ℕ) → at + columns ≤ length before → 0 < i → m ≡ mark left
     → Printing before now at columns value i left
     → Printing before (set now (at + (i - 1)) m) at columns value (i - 1) (left / 10)
@@ -78,10 +75,3 @@ printing_whole before now at zero value h room e = absurd (omega arith)
 printing_whole before now at (suc k) value h room e =
     let less : suc k - 1 ≡ k = omega arith in
     (rw less at e) ∙ sym (last_first before (front k (value / 10)) at k (48 + value % 10) (front_long k (value / 10)) (omega arith))
-
--- what stands before the last digit is in the output too
-pub front_room : (before : List ℕ) (at columns i byte : ℕ) → at + columns ≤ length before → at + (columns - 1) ≤ length (set before i byte)
-front_room before at columns i byte h = simp length-set (omega arith)
-
-pub same_size : (before now : List ℕ) (i byte : ℕ) → length now ≡ length (set before i byte) → length now ≡ length before
-same_size before now i byte e = e ∙ length-set before i byte

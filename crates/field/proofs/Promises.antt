@@ -8,7 +8,7 @@ use native.Mathlib.Omega.{arith}
 use borrow.Author.Tests.{le-leb, eq-eqb, ne_eqb}
 use lib.Dec.{eqb, lit<}
 use lib.ListN.{drop}
-use Rattle.field.specs.declared.Field.TheVariants.{Number, Malformed}
+use Rattle.std.specs.Prelude.{Some, None}
 use Rattle.field.specs.Field.{digit, decimal, number, spaces, up_to, field_of}
 use Rattle.field.specs.Printed.{mark, front, printed}
 use Rattle.field.specs.Promises.{ReadBack}
@@ -59,12 +59,12 @@ front_read (suc columns) value bytes z h =
     ∙ ap (λ v. decimal v bytes) parts)
 
 -- the last digit, which may be the only one
-last_read : (columns u d : ℕ) → d < 10 → u < 10 ^ columns → number (unspaced (front columns u ++ (48 + d) ∷ [])) ≡ Number (u * 10 + d)
+last_read : (columns u d : ℕ) → d < 10 → u < 10 ^ columns → number (unspaced (front columns u ++ (48 + d) ∷ [])) ≡ Some (u * 10 + d)
 unfolding number decimal
 last_read columns zero d h l =
     rw (spaces_off columns ((48 + d) ∷ []), other_on (48 + d) [] (omega arith)) (last_read_by_cases (eqb (48 + d) 48) ∙ digit_on 0 d [] h)
   where
-    last_read_by_cases : (t : Bool) → cond (t && false) Malformed (decimal 0 ((48 + d) ∷ [])) ≡ decimal 0 ((48 + d) ∷ [])
+    last_read_by_cases : (t : Bool) → cond (t && false) None (decimal 0 ((48 + d) ∷ [])) ≡ decimal 0 ((48 + d) ∷ [])
     last_read_by_cases true = refl
     last_read_by_cases false = refl
 last_read columns (suc u) d h l = front_read columns (suc u) ((48 + d) ∷ []) (omega arith) l ∙ digit_on (suc u) d [] h

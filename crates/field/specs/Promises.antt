@@ -1,6 +1,5 @@
 -- What is promised of numbers in columns. Each is a type; its proof stands in proofs/.
-use Rattle.std.specs.Prelude.{◌≡◌, List, ℕ, ◌^◌, ◌≤◌, ◌<◌}
-use Rattle.field.specs.declared.Field.TheVariants.{Number}
+use Rattle.std.specs.Prelude.{◌≡◌, List, ℕ, ◌^◌, ◌≤◌, ◌<◌, Some}
 use Rattle.field.specs.Field.{field_of}
 use Rattle.field.specs.Printed.{printed}
 
@@ -8,9 +7,9 @@ use Rattle.field.specs.Printed.{printed}
 unfoldable pub ReadBack : Type 0
 ReadBack =
     (columns most value : ℕ) → 0 < columns → value < 10 ^ columns → value ≤ most
-    → field_of columns most (printed columns value) ≡ Number value
+    → field_of columns most (printed columns value) ≡ Some value
 
 -- a field that has a number is what is printed of it: there is one way to write a number
 unfoldable pub WrittenOnce : Type 0
 WrittenOnce =
-    (columns most value : ℕ) (bytes : List ℕ) → field_of columns most bytes ≡ Number value → printed columns value ≡ bytes
+    (columns most value : ℕ) (bytes : List ℕ) → field_of columns most bytes ≡ Some value → printed columns value ≡ bytes

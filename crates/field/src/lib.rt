@@ -3,82 +3,55 @@
 
 ghost use Rattle.std.specs.Prelude.{◌≡◌, ◌+◌, ◌≤◌, ◌<◌, length};
 ghost use Rattle.buffers.specs.Written.{written};
-ghost use Rattle.field.specs.Field.{digit as field_digit, decimal as field_decimal, number as field_number};
+ghost use Rattle.field.specs.Field.{decimal as field_decimal, number as field_number};
 ghost use Rattle.field.specs.Field.{spaces as field_spaces, up_to, field_of};
 ghost use Rattle.field.specs.Printed.{mark as printed_mark, front, printed};
 
-// What reading a field finds: its number, or that it is of another form.
-#[derive(Clone, Copy)]
-pub enum Field {
-    Number(u16),
-    Malformed,
-}
-
-// Spaces and then a number up to the end, in exactly so many columns; the number is at most the largest.
-pub fn read(bytes: &[u8], columns: usize, most: u16) -> Field
+// Spaces and then a number up to the end, in exactly so many columns; the number is at most the largest. What is of another form has none.
+pub fn read(bytes: &[u8], columns: usize, most: u16) -> Option<u16>
     ensures { result ≡ field_of columns most bytes.now }
 {
     if bytes.len() != columns {
-        return Field::Malformed;
+        return None;
     }
-    let start = spaces(bytes);
-    number(&bytes[start..], most)
+    number(&bytes[spaces(bytes)..], most)
 }
 
 // How many spaces stand in front.
 fn spaces(bytes: &[u8]) -> usize
     ensures { result ≡ field_spaces bytes.now }
 {
-    let mut i = 0;
-    while i < bytes.len() {
-        if bytes[i] != b' ' {
-            return i;
-        }
-        i += 1;
-    }
-    i
+    bytes.iter().take_while(|byte| **byte == b' ').count()
 }
 
 // At least one digit, and no leading zero.
-fn number(bytes: &[u8], most: u16) -> Field
+fn number(bytes: &[u8], most: u16) -> Option<u16>
     ensures { result ≡ up_to most (field_number bytes.now) }
 {
-    if bytes.len() == 0 {
-        return Field::Malformed;
+    if bytes.is_empty() {
+        return None;
     }
-    if bytes.len() == 1 {
-        return decimal(bytes, most);
-    }
-    if bytes[0] == b'0' {
-        return Field::Malformed;
+    if bytes.len() > 1 && bytes[0] == b'0' {
+        return None;
     }
     decimal(bytes, most)
 }
 
 // Digits up to the end. A value above the largest stays above it, whatever follows.
-fn decimal(bytes: &[u8], most: u16) -> Field
+fn decimal(bytes: &[u8], most: u16) -> Option<u16>
     ensures { result ≡ up_to most (field_decimal 0 bytes.now) }
 {
     let mut value: u32 = 0;
-    let mut i = 0;
-    while i < bytes.len() {
-        let byte = bytes[i];
-        if !digit(byte) {
-            return Field::Malformed;
+    for byte in bytes {
+        if !byte.is_ascii_digit() {
+            return None;
         }
-        value = value * 10 + (byte - b'0') as u32;
-        if (most as u32) < value {
-            return Field::Malformed;
+        value = value * 10 + u32::from(*byte - b'0');
+        if value > u32::from(most) {
+            return None;
         }
-        i += 1;
     }
-    Field::Number(value as u16)
-}
-
-fn digit(byte: u8) -> bool
-    ensures { result ≡ field_digit byte }
-{
-    b'0' <= byte && byte <= b'9'
+    Some(value as u16)
 }
 
 // Prints a number in columns from a position on. The columns are in the output, so it has a `requires`.
@@ -96,20 +69,20 @@ fn print_front(output: &mut [u8], at: usize, columns: usize, value: u32)
     ensures { output.new ≡ written output.old at (front columns value) }
 {
     let mut left = value;
-    let mut i = columns;
-    while 0 < i {
-        i -= 1;
+    for i in (0..columns).rev() {
         output[at + i] = mark(left);
-        left = left / 10;
+        left /= 10;
     }
 }
 
 // The last digit of what is left of a number, or a space where nothing is left.
+#[tactic(auto, unfolding(crate::specs::Printed::mark))]
 fn mark(left: u32) -> u8
     ensures { result ≡ printed_mark left }
 {
     if left == 0 {
-        return b' ';
+        b' '
+    } else {
+        b'0' + (left % 10) as u8
     }
-    b'0' + (left % 10) as u8
 }

@@ -1,14 +1,12 @@
 -- How numbers are printed, a line for each.
 use mathlib.Core.Path.{◌≡◌, refl, sym, ap, ◌∙◌}
 use mathlib.Core.List.{List, [], ◌∷◌}
-use Prim.Native.Nat.{ℕ, ◌+◌, ◌*◌, ◌^◌, ◌≤◌, ◌<◌}
+use Prim.Native.Nat.{ℕ, ◌+◌, ◌*◌, ◌≤◌, ◌<◌}
 use native.Mathlib.Omega.{arith}
-use mir.Syntax.{w64}
-use mir.Val.{Fits}
 use lib.ListN.{length, get_or}
 use Rattle.buffers.specs.Written.{written}
-use Rattle.buffers.proofs.Blocks.{blocks, blocks_front, blocks_long, stacking_ends}
-use Rattle.buffers.proofs.Blocks.{Placing, placing_begins, placing_room, placing_fits, placing_turns}
+use Rattle.buffers.proofs.Blocks.{blocks, blocks_front, blocks_long}
+use Rattle.buffers.proofs.Blocks.{Stacking, stacking_turns, stacking_ends}
 use Rattle.log_print.specs.Lines.{line_of, column_of}
 use Rattle.log_print.proofs.Lines.{line_long}
 
@@ -29,29 +27,20 @@ column_long columns numbers =
     ap length (column_blocks columns numbers)
     ∙ blocks_long (columns + 1) (line_at columns numbers) (length numbers) (λ i h. line_size columns (get_or numbers i 0))
 
--- the first i lines are printed, up to a position
-abbrev pub Lining : (columns at : ℕ) → (numbers before now : List ℕ) → (next i : ℕ) → Type 0
-Lining columns at numbers before now next i = Placing at (columns + 1) (length numbers) (line_at columns numbers) before now next i
+-- the first i lines are printed
+abbrev pub Lining : (columns at : ℕ) → (numbers before now : List ℕ) → (i : ℕ) → Type 0
+Lining columns at numbers before now i = Stacking at (columns + 1) (length numbers) (line_at columns numbers) before now i
 
 module _ (columns at : ℕ) (numbers before : List ℕ) (room : at + length numbers * (columns + 1) ≤ length before) where
-  pub lining_begins : Lining columns at numbers before before at 0
-  lining_begins = placing_begins at (columns + 1) (length numbers) (line_at columns numbers) before
-
-  module _ (now : List ℕ) (next i : ℕ) (f : Lining columns at numbers before now next i) where
-    -- a line has its place in the output
-    pub lining_room : i < length numbers → next + 1 * columns < length now
-    lining_room h = omega (arith, placing_room at (columns + 1) _ (line_at columns numbers) before now next i room f h)
-
-    pub lining_fits : i < length numbers → length before < 2 ^ 64 → Fits w64 (next + (columns + 1))
-    lining_fits h l = placing_fits at (columns + 1) _ (line_at columns numbers) before now next i room f h l
-
-    pub lining_turns : (after : List ℕ) → i < length numbers → after ≡ written now next (line_of columns (get_or numbers i 0 ∷ []))
-        → Lining columns at numbers before after (next + (columns + 1)) (i + 1)
+  module _ (now : List ℕ) (i : ℕ) (f : Lining columns at numbers before now i) where
+    pub lining_turns : (after : List ℕ) → i < length numbers
+        → after ≡ written now (at + i * (columns + 1)) (line_of columns (get_or numbers i 0 ∷ []))
+        → Lining columns at numbers before after (i + 1)
     lining_turns after h e =
-        placing_turns at (columns + 1) _ (line_at columns numbers) before now next i room f after
-        (λ j l. line_size columns (get_or numbers j 0)) h e
+        stacking_turns at (columns + 1) _ (line_at columns numbers) before now i f after (at + i * (columns + 1))
+        (λ j l. line_size columns (get_or numbers j 0)) h room refl e
 
     pub lining_ends : length numbers ≤ i → now ≡ written before at (column_of columns numbers)
     lining_ends h =
-        stacking_ends at (columns + 1) _ (line_at columns numbers) before now i f.stack h
+        stacking_ends at (columns + 1) _ (line_at columns numbers) before now i f h
         ∙ ap (written before at) (sym (column_blocks columns numbers))

@@ -7,7 +7,7 @@ use lib.ListN.{length, get_or, length-append}
 use Rattle.buffers.specs.Written.{written, in_front}
 use Rattle.buffers.proofs.Written.{written_more, written_front}
 use Rattle.buffers.proofs.Blocks.{blocks, numbered_blocks, blocks_long}
-use Rattle.buffers.proofs.Blocks.{Stacking, stacking_begins, stacking_room, stacking_turns, stacking_ends}
+use Rattle.buffers.proofs.Blocks.{Stacking, stacking_turns, stacking_ends}
 use Rattle.lookup.specs.Entry.{kind_of, value_of}
 use Rattle.log_print.specs.Lines.{line_of, entry_lines, answer_lines}
 use Rattle.log_print.proofs.Lines.{line_long}
@@ -29,30 +29,18 @@ entries_long first log =
     ap length (entry_blocks 6 first log) ∙ blocks_long 19 (entry_at 6 first log) (length log) (λ i h. line_19 (first + i) _ _)
 
 -- the lines of the first i entries are printed
-pub record Listing (first : ℕ) (log before now : List ℕ) (i : ℕ) : Type 0 where
-  pub stack : Stacking 0 19 (length log) (entry_at 6 first log) before now i
+abbrev pub Listing : (first : ℕ) → (log before now : List ℕ) → (i : ℕ) → Type 0
+Listing first log before now i = Stacking 0 19 (length log) (entry_at 6 first log) before now i
 
-module _ (first : ℕ) (log before : List ℕ) where
-  pub listing_begins : Listing first log before before 0
-  listing_begins = record { stack = stacking_begins 0 19 (length log) (entry_at 6 first log) before }
+module _ (first : ℕ) (log before now : List ℕ) (i : ℕ) (s : Listing first log before now i) where
+  pub listing_turns : (next : List ℕ) → 19 * length log ≤ length before → i < length log → next ≡ written now (19 * i) (entry_at 6 first log i)
+      → Listing first log before next (i + 1)
+  listing_turns next room h e =
+      stacking_turns 0 19 _ (entry_at 6 first log) before now i s next (19 * i) (λ j l. line_19 (first + j) _ _) h (omega arith) (omega arith) e
 
-  module _ (now : List ℕ) (i : ℕ) (room : 19 * length log ≤ length before) (s : Listing first log before now i) where
-    -- a line has its place in the output
-    pub listing_room : i < length log → 19 * i + 19 ≤ length now
-    listing_room h = omega (arith, stacking_room 0 19 _ (entry_at 6 first log) before now i s.stack h (omega arith))
-
-    pub listing_turns : (next : List ℕ) → i < length log → next ≡ written now (19 * i) (entry_at 6 first log i)
-        → Listing first log before next (i + 1)
-    listing_turns next h e =
-        record {
-          stack =
-              stacking_turns 0 19 _ (entry_at 6 first log) before now i s.stack next (19 * i) (λ j l. line_19 (first + j) _ _) h
-              (omega arith) (omega arith) e;
-        }
-
-    pub listing_ends : length log ≤ i → now ≡ written before 0 (entry_lines 6 first log)
-    listing_ends h =
-        stacking_ends 0 19 _ (entry_at 6 first log) before now i s.stack h ∙ ap (written before 0) (sym (entry_blocks 6 first log))
+  pub listing_ends : length log ≤ i → now ≡ written before 0 (entry_lines 6 first log)
+  listing_ends h =
+      stacking_ends 0 19 _ (entry_at 6 first log) before now i s h ∙ ap (written before 0) (sym (entry_blocks 6 first log))
 
 -- the last line
 pub listing_whole : (log before first second : List ℕ) (share count : ℕ) → 19 * length log + 19 ≤ length before
@@ -69,9 +57,3 @@ pub answer_long : (log : List ℕ) (share count : ℕ) → 19 * length log + 19 
 unfolding answer_lines
 answer_long log share count =
     sym (length-append (entry_lines 6 0 log) _ ∙ omega (arith, entries_long 0 log, line_19 0 share count))
-
--- a line of an entry that was taken apart
-pub entry_line : (before now : List ℕ) (at position entry kind value : ℕ) → kind ≡ kind_of entry → value ≡ value_of entry
-    → now ≡ written before at (line_of 6 (position ∷ kind ∷ value ∷ []))
-    → now ≡ written before at (line_of 6 (position ∷ kind_of entry ∷ value_of entry ∷ []))
-entry_line before now at position entry kind value k v e = e ∙ rw (k, v)

@@ -1,15 +1,13 @@
 -- How a line is printed, number by number.
 use mathlib.Core.Path.{◌≡◌, refl, sym, ap, ◌∙◌}
 use mathlib.Core.List.{List, [], ◌∷◌, ◌++◌, append_assoc}
-use Prim.Native.Nat.{ℕ, ◌+◌, ◌*◌, ◌^◌, ◌≤◌, ◌<◌}
+use Prim.Native.Nat.{ℕ, ◌+◌, ◌*◌, ◌≤◌, ◌<◌}
 use native.Mathlib.Omega.{arith}
-use mir.Syntax.{w64}
-use mir.Val.{Fits}
 use lib.ListN.{length, get_or, set, length-append}
 use Rattle.buffers.specs.Written.{written, in_front}
 use Rattle.buffers.proofs.Written.{written_more, written_front, set_written}
-use Rattle.buffers.proofs.Blocks.{blocks, blocks_front, blocks_long, stacking_ends}
-use Rattle.buffers.proofs.Blocks.{Placing, placing_begins, placing_room, placing_fits, placing_turns}
+use Rattle.buffers.proofs.Blocks.{blocks, blocks_front, blocks_long}
+use Rattle.buffers.proofs.Blocks.{Stacking, stacking_turns, stacking_ends}
 use Rattle.field.specs.Printed.{printed}
 use Rattle.field.proofs.Printing.{printed_long}
 use Rattle.log_print.specs.Lines.{line_of}
@@ -32,46 +30,34 @@ line_long columns numbers =
     ap length (line_split columns numbers) ∙ length-append (blocks (number_at columns numbers) (length numbers)) _
     ∙ omega (arith, fields_long columns numbers (length numbers))
 
--- the first i numbers are printed, up to a position
-abbrev pub Filling : (columns at : ℕ) → (numbers before now : List ℕ) → (next i : ℕ) → Type 0
-Filling columns at numbers before now next i = Placing at columns (length numbers) (number_at columns numbers) before now next i
+-- the first i numbers are printed
+abbrev pub Filling : (columns at : ℕ) → (numbers before now : List ℕ) → (i : ℕ) → Type 0
+Filling columns at numbers before now i = Stacking at columns (length numbers) (number_at columns numbers) before now i
 
 module _ (columns at : ℕ) (numbers before : List ℕ) (room : at + length numbers * columns < length before) where
-  pub filling_begins : Filling columns at numbers before before at 0
-  filling_begins = placing_begins at columns (length numbers) (number_at columns numbers) before
-
-  module _ (now : List ℕ) (next i : ℕ) (f : Filling columns at numbers before now next i) where
+  module _ (now : List ℕ) (i : ℕ) (f : Filling columns at numbers before now i) where
     enough : at + length numbers * columns ≤ length before
     enough = omega arith
 
-    -- a number has its place in the output
-    pub filling_room : i < length numbers → next + columns ≤ length now
-    filling_room h = placing_room at columns _ (number_at columns numbers) before now next i enough f h
-
-    pub filling_fits : i < length numbers → length before < 2 ^ 64 → Fits w64 (next + columns)
-    filling_fits h l = placing_fits at columns _ (number_at columns numbers) before now next i enough f h l
-
-    pub filling_turns : (after : List ℕ) → i < length numbers → after ≡ written now next (printed columns (get_or numbers i 0))
-        → Filling columns at numbers before after (next + columns) (i + 1)
+    pub filling_turns : (after : List ℕ) → i < length numbers
+        → after ≡ written now (at + i * columns) (printed columns (get_or numbers i 0))
+        → Filling columns at numbers before after (i + 1)
     filling_turns after h e =
-        placing_turns at columns _ (number_at columns numbers) before now next i enough f after
-        (λ j l. printed_long columns (get_or numbers j 0)) h e
+        stacking_turns at columns _ (number_at columns numbers) before now i f after (at + i * columns)
+        (λ j l. printed_long columns (get_or numbers j 0)) h enough refl e
 
     -- the line feed behind them
-    whole : length numbers ≤ i → i ≡ length numbers
-    whole h = omega (arith, f.stack.within)
+    feed_room : at + length numbers * columns < length now
+    feed_room = omega (arith, f.long)
 
-    pub feed_room : length numbers ≤ i → next < length now
-    feed_room h = omega (arith, f.place, f.stack.long, ap (λ n. n * columns) (whole h))
-
-    pub filling_ends : length numbers ≤ i → set now next 10 ≡ written before at (line_of columns numbers)
+    pub filling_ends : length numbers ≤ i → set now (at + length numbers * columns) 10 ≡ written before at (line_of columns numbers)
     filling_ends h =
         let fields = blocks (number_at columns numbers) (length numbers) in
-        let end : at + length fields ≡ next
-        = omega (arith, fields_long columns numbers (length numbers), f.place, ap (λ n. n * columns) (whole h)) in
-        set_written now next 10 (feed_room h)
-        ∙ rw (stacking_ends at columns _ (number_at columns numbers) before now i f.stack h)
-        (written_more before at next fields (10 ∷ []) end (omega (arith, feed_room h, f.stack.long)))
+        let next = at + length numbers * columns in
+        let end : at + length fields ≡ next = omega (arith, fields_long columns numbers (length numbers)) in
+        set_written now next 10 feed_room
+        ∙ rw (stacking_ends at columns _ (number_at columns numbers) before now i f h)
+        (written_more before at next fields (10 ∷ []) end (omega (arith, feed_room, f.long)))
         ∙ ap (written before at) (sym (line_split columns numbers))
 
 -- a refusal is a line alone

@@ -38,10 +38,8 @@ fn put_entries(output: &mut [u8], log: &[u32], first: u32)
     requires { (first + length log.now ≤ 999999) × (19 * length log.now ≤ length output.old) }
     ensures { output.new ≡ written output.old 0 (entry_lines 6 first log.now) }
 {
-    let mut i = 0;
-    while i < log.len() {
-        put_entry(output, 19 * i, first + i as u32, log[i]);
-        i += 1;
+    for (i, entry) in log.iter().enumerate() {
+        put_entry(output, 19 * i, first + i as u32, *entry);
     }
 }
 
@@ -60,17 +58,11 @@ pub fn put_counts(output: &mut [u8], counts: &[u32], side: usize) -> usize
     ensures value { result ≡ length (count_lines side side counts.now) }
     ensures output_after { output.new ≡ in_front (count_lines side side counts.now) output.old }
 {
-    let mut at = 0;
-    let mut start = 0;
-    let mut u = 0;
-    while u < side {
-        let end = start + side;
-        put_line(output, at, 8, &counts[start..end]);
-        at += 8 * side + 1;
-        start = end;
-        u += 1;
+    for u in 0..side {
+        let start = u * side;
+        put_line(output, u * (8 * side + 1), 8, &counts[start..start + side]);
     }
-    at
+    side * (8 * side + 1)
 }
 
 // Numbers in columns, a line for each, from a position on.
@@ -78,13 +70,8 @@ pub fn put_column(output: &mut [u8], at: usize, columns: usize, numbers: &[u32])
     requires { (0 < columns) × (columns ≤ 256) × (at + length numbers.now * (columns + 1) ≤ length output.old) }
     ensures { output.new ≡ written output.old at (column_of columns numbers.now) }
 {
-    let size = columns + 1;
-    let mut next = at;
-    let mut i = 0;
-    while i < numbers.len() {
-        put_line(output, next, columns, &[numbers[i]]);
-        next += size;
-        i += 1;
+    for (i, number) in numbers.iter().enumerate() {
+        put_line(output, at + i * (columns + 1), columns, &[*number]);
     }
 }
 
@@ -93,12 +80,8 @@ pub fn put_line(output: &mut [u8], at: usize, columns: usize, numbers: &[u32])
     requires { (0 < columns) × (at + length numbers.now * columns < length output.old) }
     ensures { output.new ≡ written output.old at (line_of columns numbers.now) }
 {
-    let mut next = at;
-    let mut i = 0;
-    while i < numbers.len() {
-        field::print(output, next, columns, numbers[i]);
-        next += columns;
-        i += 1;
+    for (i, number) in numbers.iter().enumerate() {
+        field::print(output, at + i * columns, columns, *number);
     }
-    output[next] = b'\n';
+    output[at + numbers.len() * columns] = b'\n';
 }

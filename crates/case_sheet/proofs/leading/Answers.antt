@@ -1,9 +1,6 @@
-use Rattle.case_sheet.proofs.Found.{found_begins, found_turns, stops_counted}
-use Rattle.case_sheet.proofs.Found.{stops_left, found_counted, found_left, number_fits, next_fits}
+-- `case_sheet::leading` meets its contract.
+use Rattle.case_sheet.proofs.Found.{found_turns, rest_within, stops_counted, stops_left, found_counted, found_left}
 use Rattle.case_sheet.proofs.leading.Goals as goal
-
-pub loop-i-init : goal.loop-i-init
-loop-i-init c = search found_begins
 
 pub returns-in_default-clause-value : goal.returns-in_default-clause-value
 returns-in_default-clause-value c = search stops_counted
@@ -11,11 +8,11 @@ returns-in_default-clause-value c = search stops_counted
 pub returns-in_default-clause-numbers_after : goal.returns-in_default-clause-numbers_after
 returns-in_default-clause-numbers_after c = search stops_left
 
-pub overflow_cast-numbers : goal.overflow_cast-numbers
-overflow_cast-numbers c = search number_fits
+pub slice_bounds-rest-count : goal.slice_bounds-rest-count
+slice_bounds-rest-count c = search rest_within
 
-pub overflow_add-at : goal.overflow_add-at
-overflow_add-at c = search next_fits
+pub slice_bounds-rest-start : goal.slice_bounds-rest-start
+slice_bounds-rest-start c = search rest_within
 
 pub loop-i-preserved : goal.loop-i-preserved
 loop-i-preserved c = search found_turns

@@ -1,8 +1,5 @@
-use Rattle.field.proofs.Printing.{printing_begins, printing_turns, printing_ends}
+use Rattle.field.proofs.Printing.{printing_turns, printing_ends}
 use Rattle.field.proofs.print_front.Goals as goal
-
-pub loop-i-init : goal.loop-i-init
-loop-i-init c = search printing_begins
 
 pub loop-i-preserved : goal.loop-i-preserved
 loop-i-preserved c = search printing_turns

@@ -4,6 +4,3 @@ use Rattle.field.proofs.print_front.Given as goal
 
 abbrev pub invariant-loop-i : goal.invariant-loop-i
 invariant-loop-i l = Printing l.initial.output l.output l.at l.columns l.value l.i l.left
-
-abbrev pub decreases-loop-i : goal.decreases-loop-i
-decreases-loop-i l = l.i
