@@ -5,7 +5,7 @@ use Prim.Native.Nat.{ℕ}
 use Rattle.refusals.specs.Left.{left}
 use Rattle.refusals.proofs.Left.{left_refused, left_accepted}
 use Rattle.aes.specs.State.{State}
-use Rattle.frame.specs.declared.Encrypted.{Encrypted}
+use Rattle.frame.specs.Encrypted.{Encrypted}
 use Rattle.frame_lookups.specs.Shares.{share}
 use Rattle.frame_rounds.specs.Rounds.{frame_shares}
 use Rattle.frame.specs.Frame.{frame_refusal, flat, encrypted, frame_reply}

@@ -28,8 +28,10 @@ pub extern "C" fn cippazhey_plain_call(
     ensures scratch_after { scratch.new ≡ plain_scratch (case_from method n m x0 r1 r2 s1 s2 r3 b) table.now
         scratch.old }
 {
-    let called = calls::plain_call(method, n, m, x0, r1, r2, s1, s2, r3, b, table, scratch);
-    (called.refusal * 256 + called.share) as u16
+    match calls::plain_call(method, n, m, x0, r1, r2, s1, s2, r3, b, table, scratch) {
+        Ok(answered) => answered.share as u16,
+        Err(refusal) => (refusal.number() * 256) as u16,
+    }
 }
 
 #[unsafe(no_mangle)]
@@ -53,9 +55,13 @@ pub extern "C" fn cippazhey_select(
     ensures share1_after { share1.new ≡ plain_select_share 1 (selection_from width z0 z1 z2 c0 c1 c2 t1 t2 b) share1.old }
     ensures share2_after { share2.new ≡ plain_select_share 2 (selection_from width z0 z1 z2 c0 c1 c2 t1 t2 b) share2.old }
 {
-    selection::plain_select(
+    let chosen = selection::plain_select(
         width, z0, z1, z2, c0, c1, c2, t1, t2, b, share0, share1, share2,
-    )
+    );
+    match chosen {
+        Ok(()) => 0,
+        Err(refusal) => refusal.number(),
+    }
 }
 
 #[unsafe(no_mangle)]
@@ -86,17 +92,18 @@ pub extern "C" fn cippazhey_encrypt_frame(
     ensures share3_after { share3.new ≡ exported_share 2 plaintext.now key1.now key2.now key3.now
         random.now scratch.old share3.old }
 {
-    let encrypted = frame::encrypt_frame(*plaintext, *key1, *key2, *key3, random, scratch);
-    if encrypted.refusal != 0 {
-        return encrypted.refusal;
+    match frame::encrypt_frame(*plaintext, *key1, *key2, *key3, random, scratch) {
+        Ok(ciphertext) => {
+            let first = ciphertext.share1;
+            *share1 = first;
+            let second = ciphertext.share2;
+            *share2 = second;
+            let third = ciphertext.share3;
+            *share3 = third;
+            0
+        }
+        Err(refusal) => refusal.number(),
     }
-    let first = encrypted.share1;
-    *share1 = first;
-    let second = encrypted.share2;
-    *share2 = second;
-    let third = encrypted.share3;
-    *share3 = third;
-    0
 }
 
 #[unsafe(no_mangle)]

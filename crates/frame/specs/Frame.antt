@@ -4,7 +4,7 @@ use Rattle.refusals.specs.Checks.{Check, ◌when◌, first_of}
 use Rattle.refusals.specs.Left.{left}
 use Rattle.aes.specs.State.{State, byte}
 use Rattle.screening.specs.Report.{faulty_run}
-use Rattle.frame.specs.declared.Encrypted.{Encrypted}
+use Rattle.frame.specs.Encrypted.{Encrypted}
 use Rattle.frame_lookups.specs.Scratch.{cleared}
 use Rattle.frame_lookups.specs.Shares.{Shares, share}
 use Rattle.frame_rounds.specs.Rounds.{frame_shares}

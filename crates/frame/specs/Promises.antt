@@ -6,7 +6,7 @@ use Rattle.table.specs.Tabulate.{tabulate}
 use Rattle.aes.specs.State.{State, state_from, Bytes}
 use Rattle.aes.specs.Cipher.{cipher}
 use Rattle.screening.specs.Report.{faulty_run}
-use Rattle.frame.specs.declared.Encrypted.{Encrypted}
+use Rattle.frame.specs.Encrypted.{Encrypted}
 use Rattle.frame_lookups.specs.Shares.{joined}
 use Rattle.frame_lookups.specs.Lookups.{position}
 use Rattle.frame.specs.Frame.{frame_refusal, flat, frame_reply, frame_scratch}

@@ -4,12 +4,15 @@
 ghost use Rattle.std.specs.Prelude.{◌≡◌, ◌≤◌, length};
 ghost use Rattle.frame_lookups.specs.Scratch.{cleared};
 ghost use Rattle.frame_rounds.specs.Rounds.{frame_shares};
+ghost use Rattle.refusals.specs.Numbers.{refusal_of};
+ghost use Rattle.frame.specs.Encrypted.{handed_frame};
 ghost use Rattle.frame.specs.Frame.{frame_refusal, flat as frame_flat, frame_reply, frame_scratch};
 
-// What a frame hands back: its refusal, and the three shares' bytes, column by column.
-#[derive(Clone, Copy)]
-pub struct Encrypted {
-    pub refusal: u32,
+use refusals::Refusal;
+
+// What an accepted frame hands back: the bytes of the ciphertext's three shares, column by column.
+#[derive(Clone, Copy, Debug, PartialEq, Eq)]
+pub struct Ciphertext {
     pub share1: [u8; 16],
     pub share2: [u8; 16],
     pub share3: [u8; 16],
@@ -24,41 +27,32 @@ pub fn encrypt_frame(
     key3: [[u8; 4]; 4],
     random: &[u8],
     scratch: &mut [u8],
-) -> Encrypted
-    ensures value { result ≡ frame_reply plaintext key1 key2 key3 random.now scratch.old }
+) -> Result<Ciphertext, Refusal>
+    ensures value { handed_frame result ≡ frame_reply plaintext key1 key2 key3 random.now scratch.old }
     ensures scratch_after { scratch.new ≡ frame_scratch random.now scratch.old }
 {
-    let refusal = refused(random, scratch);
-    if refusal != 0 {
-        return Encrypted {
-            refusal,
-            share1: [0; 16],
-            share2: [0; 16],
-            share3: [0; 16],
-        };
-    }
+    refused(random, scratch)?;
     let s = encrypt(plaintext, [key1, key2, key3], random, scratch);
-    Encrypted {
-        refusal,
+    Ok(Ciphertext {
         share1: flat(s[0]),
         share2: flat(s[1]),
         share3: flat(s[2]),
-    }
+    })
 }
 
-fn refused(random: &[u8], scratch: &[u8]) -> u32
-    ensures { result ≡ frame_refusal random.now scratch.now }
+fn refused(random: &[u8], scratch: &[u8]) -> Result<(), Refusal>
+    ensures { refusal_of result ≡ frame_refusal random.now scratch.now }
 {
     if random.len() != 632 {
-        return 26;
+        return Err(Refusal::RandomLength);
     }
     if screening::screen(random).is_some() {
-        return 27;
+        return Err(Refusal::FaultyRandom);
     }
     if scratch.len() < 256 {
-        return 13;
+        return Err(Refusal::ShortScratch);
     }
-    0
+    Ok(())
 }
 
 // A frame that is not refused.
