@@ -16,7 +16,7 @@ pub fn answer<I: Read + IsTerminal, O: AsSlice<u8> + Drop, F: FnOnce(&[u8], &mut
     rt: &(impl Print + Eprint),
     input: &mut I,
     words: &str,
-    mut output: O,
+    output: O,
     print: F,
 )
     requires { F.IsAlwaysCallable print }
@@ -26,8 +26,7 @@ pub fn answer<I: Read + IsTerminal, O: AsSlice<u8> + Drop, F: FnOnce(&[u8], &mut
     say_at_terminal(rt, input, words);
     let mut space = [0u8; MOST_READ];
     let got = read_full(input, &mut space);
-    let length = print(&space[..got], &mut output);
-    write_front(rt, output.as_slice(), length);
+    write_print(rt, &space[..got], output, print);
 }
 
 // Someone at a terminal is told what is waited for. Nobody else is.
@@ -60,6 +59,21 @@ fn read_once<R: Read>(input: &mut R, space: &mut [u8]) -> usize
     ensures bytes { Consumes (R.remaining input.old) (R.remaining input.new) (take result space.new) }
 {
     input.read(space).unwrap_or(0)
+}
+
+// Has an input printed into an array, and writes the front of that.
+pub fn write_print<O: AsSlice<u8> + Drop, F: FnOnce(&[u8], &mut O) -> usize>(
+    rt: &(impl Print + Eprint),
+    input: &[u8],
+    mut output: O,
+    print: F,
+)
+    requires { F.IsAlwaysCallable print }
+    ensures { (read : _) × (lent : _) × (size : _) × (left : _) × (read.now ≡ input.now) × (lent.now ≡ output)
+        × F.post print read lent size left }
+{
+    let length = print(input, &mut output);
+    write_front(rt, output.as_slice(), length);
 }
 
 // Writes the front of an output. A print is never longer than its array, which this tests once more instead of proving it here. Where not all

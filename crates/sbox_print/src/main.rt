@@ -5,8 +5,8 @@ use std::io;
 
 fn main(rt: HostRuntime) -> io::Result<()> {
     let table = sbox::table();
-    for i in 0..256 {
-        print_entry(&rt, table[i], i % 16 == 15)?;
+    for (i, &byte) in table.iter().enumerate() {
+        print_entry(&rt, byte, i % 16 == 15)?;
     }
     Ok(())
 }

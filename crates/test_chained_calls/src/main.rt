@@ -5,7 +5,6 @@
 #![tactic(auto)]
 
 use chain::{Chained, Second};
-use std::fs::File;
 use std::io;
 
 // What the second call has of its own.
@@ -39,10 +38,10 @@ fn print_buffers(
     first_log: &[u32],
     second_log: &[u32],
 ) -> io::Result<()> {
-    test_records::print_bytes(rt, test_lookup_records::whole(first), first_scratch)?;
-    test_records::print_bytes(rt, test_lookup_records::whole(second), second_scratch)?;
-    test_records::print_numbers(rt, test_lookup_records::whole(first), first_log)?;
-    test_records::print_numbers(rt, test_lookup_records::whole(second), second_log)?;
+    test_records::print_values(rt, test_lookup_records::whole(first), first_scratch)?;
+    test_records::print_values(rt, test_lookup_records::whole(second), second_scratch)?;
+    test_records::print_values(rt, test_lookup_records::whole(first), first_log)?;
+    test_records::print_values(rt, test_lookup_records::whole(second), second_log)?;
     test_records::end_line(rt)
 }
 
@@ -122,27 +121,11 @@ fn answer(rt: &impl Print, first: &[u8], second: &[u8]) -> io::Result<()> {
     )
 }
 
-// Reads one case and answers it; false where the file holds no more.
-fn answer_next(rt: &impl Print, file: &mut File) -> io::Result<bool> {
-    let mut first = [0u8; 320];
-    let mut second = [0u8; 320];
-    if !test_records::read(file, &mut first)? {
-        return Ok(false);
-    }
-    if !test_records::read(file, &mut second)? {
-        return Ok(false);
-    }
-    answer(rt, &first, &second)?;
-    Ok(true)
-}
-
-// A proved loop has to end, so it has more turns than any file of cases takes.
+// The first call's record stands before the second's.
 fn main(rt: HostRuntime) -> io::Result<()> {
-    let mut file = test_records::open(&rt)?;
-    for _ in 0..u32::MAX {
-        if !answer_next(&rt, &mut file)? {
-            break;
-        }
-    }
-    Ok(())
+    test_records::each_record(&rt, &mut [0; 640], |case| {
+        let first = test_records::part(case, 0, 320);
+        let second = test_records::part(case, 320, 320);
+        answer(&rt, first, second)
+    })
 }

@@ -5,7 +5,6 @@
 #![tactic(auto)]
 
 use count_sheet::ProbePair;
-use std::fs::File;
 use std::io;
 
 fn pair(record: &[u8]) -> ProbePair {
@@ -31,9 +30,9 @@ fn print_call(
     let refusal = count_sheet::count_sheet(pair(record), table, scratch, log, sheet);
     let whole = test_records::number(record, 4) <= 1;
     test_records::print_first(rt, refusal)?;
-    test_records::print_bytes(rt, whole, scratch)?;
-    test_records::print_numbers(rt, whole, log)?;
-    test_records::print_numbers(rt, true, sheet)?;
+    test_records::print_values(rt, whole, scratch)?;
+    test_records::print_values(rt, whole, log)?;
+    test_records::print_values(rt, true, sheet)?;
     test_records::end_line(rt)
 }
 
@@ -42,9 +41,9 @@ fn answer(rt: &impl Print, record: &[u8]) -> io::Result<()> {
     let mut scratch = [165u8; 600];
     let mut log = [2779096485u32; 2400];
     let mut sheet = [4042322160u32; 100];
-    let bytes = test_records::least(test_records::length(record, 26), 600);
-    let entries = test_records::least(test_records::length(record, 28), 2400);
-    let counts = test_records::least(test_records::length(record, 30), 100);
+    let bytes = test_records::length(record, 26).min(600);
+    let entries = test_records::length(record, 28).min(2400);
+    let counts = test_records::length(record, 30).min(100);
     print_call(
         rt,
         record,
@@ -54,23 +53,6 @@ fn answer(rt: &impl Print, record: &[u8]) -> io::Result<()> {
     )
 }
 
-// Reads one record and answers it; false where the file holds no more.
-fn answer_next(rt: &impl Print, file: &mut File) -> io::Result<bool> {
-    let mut record = [0u8; 304];
-    if !test_records::read(file, &mut record)? {
-        return Ok(false);
-    }
-    answer(rt, &record)?;
-    Ok(true)
-}
-
-// A proved loop has to end, so it has more turns than any file of cases takes.
 fn main(rt: HostRuntime) -> io::Result<()> {
-    let mut file = test_records::open(&rt)?;
-    for _ in 0..u32::MAX {
-        if !answer_next(&rt, &mut file)? {
-            break;
-        }
-    }
-    Ok(())
+    test_records::each_record(&rt, &mut [0; 304], |record| answer(&rt, record))
 }

@@ -6,7 +6,6 @@
 #![tactic(auto)]
 
 use frame::Encrypted;
-use std::fs::File;
 use std::io;
 
 // The types of places grow from a block to its columns and bytes, so that no sum wraps.
@@ -39,11 +38,11 @@ fn print_line(rt: &impl Print, encrypted: Encrypted, scratch: &[u8]) -> io::Resu
     let share2 = encrypted.share2;
     let share3 = encrypted.share3;
     test_records::print_first(rt, encrypted.refusal)?;
-    test_records::print_bytes(rt, true, &share1)?;
-    test_records::print_bytes(rt, true, &share2)?;
-    test_records::print_bytes(rt, true, &share3)?;
-    test_records::print_bytes(rt, false, test_records::part(scratch, 0, 256))?;
-    test_records::print_bytes(rt, true, test_records::part(scratch, 256, scratch.len()))?;
+    test_records::print_values(rt, true, &share1)?;
+    test_records::print_values(rt, true, &share2)?;
+    test_records::print_values(rt, true, &share3)?;
+    test_records::print_values(rt, false, test_records::part(scratch, 0, 256))?;
+    test_records::print_values(rt, true, test_records::part(scratch, 256, scratch.len()))?;
     test_records::end_line(rt)
 }
 
@@ -72,27 +71,10 @@ fn print_frame(rt: &impl Print, record: &[u8], scratch: &mut [u8]) -> io::Result
 
 fn answer(rt: &impl Print, record: &[u8]) -> io::Result<()> {
     let mut scratch = [0u8; 300];
-    let bytes = test_records::least(test_records::length(record, 66), 300);
+    let bytes = test_records::length(record, 66).min(300);
     print_frame(rt, record, &mut scratch[..bytes])
 }
 
-// Reads one record and answers it; false where the file holds no more.
-fn answer_next(rt: &impl Print, file: &mut File) -> io::Result<bool> {
-    let mut record = [0u8; 704];
-    if !test_records::read(file, &mut record)? {
-        return Ok(false);
-    }
-    answer(rt, &record)?;
-    Ok(true)
-}
-
-// A proved loop has to end, so it has more turns than any file of cases takes.
 fn main(rt: HostRuntime) -> io::Result<()> {
-    let mut file = test_records::open(&rt)?;
-    for _ in 0..u32::MAX {
-        if !answer_next(&rt, &mut file)? {
-            break;
-        }
-    }
-    Ok(())
+    test_records::each_record(&rt, &mut [0; 704], |record| answer(&rt, record))
 }

@@ -4,7 +4,6 @@
 #![tactic(auto)]
 
 use lookup::Called;
-use std::fs::File;
 use std::io;
 
 fn print_line(
@@ -17,8 +16,8 @@ fn print_line(
     test_records::print_first(rt, called.refusal)?;
     test_records::print_next(rt, called.share)?;
     test_records::print_next(rt, called.count)?;
-    test_records::print_bytes(rt, whole, scratch)?;
-    test_records::print_numbers(rt, whole, log)?;
+    test_records::print_values(rt, whole, scratch)?;
+    test_records::print_values(rt, whole, log)?;
     test_records::end_line(rt)
 }
 
@@ -44,23 +43,6 @@ fn answer(rt: &impl Print, record: &[u8]) -> io::Result<()> {
     print_call(rt, record, &mut scratch[..bytes], &mut log[..entries])
 }
 
-// Reads one record and answers it; false where the file holds no more.
-fn answer_next(rt: &impl Print, file: &mut File) -> io::Result<bool> {
-    let mut record = [0u8; 320];
-    if !test_records::read(file, &mut record)? {
-        return Ok(false);
-    }
-    answer(rt, &record)?;
-    Ok(true)
-}
-
-// A proved loop has to end, so it has more turns than any file of cases takes.
 fn main(rt: HostRuntime) -> io::Result<()> {
-    let mut file = test_records::open(&rt)?;
-    for _ in 0..u32::MAX {
-        if !answer_next(&rt, &mut file)? {
-            break;
-        }
-    }
-    Ok(())
+    test_records::each_record(&rt, &mut [0; 320], |record| answer(&rt, record))
 }

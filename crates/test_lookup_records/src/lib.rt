@@ -31,14 +31,14 @@ pub fn table(record: &[u8]) -> &[u8] {
 pub fn scratch_length(record: &[u8]) -> usize
     ensures { result ≤ 600 }
 {
-    test_records::least(test_records::length(record, 42), 600)
+    test_records::length(record, 42).min(600)
 }
 
 // How many entries of a log are lent, of 2400.
 pub fn log_length(record: &[u8]) -> usize
     ensures { result ≤ 2400 }
 {
-    test_records::least(test_records::length(record, 44), 2400)
+    test_records::length(record, 44).min(2400)
 }
 
 // Whether the call's scratch and log are short enough to be printed whole.
@@ -58,7 +58,6 @@ pub fn prepare(record: &[u8], scratch: &mut [u8]) {
 
 // Writes 165 from one place up to, not including, another, as far as the buffer reaches.
 fn soil(buffer: &mut [u8], from: usize, to: usize) {
-    for at in from..to.min(buffer.len()) {
-        buffer[at] = 165;
-    }
+    let end = to.min(buffer.len());
+    buffer[from.min(end)..end].fill(165);
 }

@@ -1,38 +1,11 @@
 // Prints the page of each sheet of the file `cases`.
 #![tactic(auto)]
 
-use std::fs::File;
 use std::io;
-use test_records::Sheet;
 
-fn print_page(rt: &(impl Print + Eprint), bytes: &[u8]) {
-    let mut output = [0u8; 40960];
-    let length = page_print::print(bytes, &mut output);
-    write_page(rt, &output, length);
-}
-
-fn write_page(rt: &(impl Print + Eprint), output: &[u8; 40960], length: usize) {
-    console::write_front(rt, output, length);
-}
-
-// Reads and answers one sheet; false where the file holds no more.
-fn answer_next(rt: &(impl Print + Eprint), file: &mut File) -> io::Result<bool> {
-    let mut space = [0u8; console::MOST_READ];
-    let next = test_records::next_sheet(file, &mut space)?;
-    let Sheet::Bytes(length) = next else {
-        return Ok(false);
-    };
-    print_page(rt, test_records::part(&space, 0, length));
-    Ok(true)
-}
-
-// A proved loop has to end, so it has more turns than any file of cases takes.
 fn main(rt: HostRuntime) -> io::Result<()> {
-    let mut file = test_records::open(&rt)?;
-    for _ in 0..u32::MAX {
-        if !answer_next(&rt, &mut file)? {
-            break;
-        }
-    }
-    Ok(())
+    let mut space = [0u8; console::MOST_READ];
+    test_records::each_sheet(&rt, &mut space, |bytes| {
+        console::write_print(&rt, bytes, [0; 40960], page_print::print)
+    })
 }

@@ -1,7 +1,7 @@
 // Files of test cases: their records one after the other, the numbers in a record, and numbers and buffers printed on a line.
 #![tactic(auto)]
 
-ghost use Rattle.std.specs.Prelude.{◌≡◌, ◌≤◌, ◌<◌, min, get_or, take, drop, true};
+ghost use Rattle.std.specs.Prelude.{◌≡◌, ◌≤◌, ◌<◌, length, get_or, take, drop, true, IfOk, IfSome};
 ghost use Rattle.std.specs.Io.KnownBytes.{Consumes};
 ghost use Rattle.test_records.specs.Files.{Opened, Filled};
 ghost use Rattle.test_records.specs.Little.{length_at, number_at};
@@ -38,24 +38,71 @@ pub fn read<R: Read>(file: &mut R, space: &mut [u8]) -> io::Result<bool>
     }
 }
 
-// What a file of sheets holds next: a sheet of so many bytes, or no more.
-#[derive(Clone, Copy)]
-pub enum Sheet {
-    Bytes(usize),
-    None,
-}
-
-// Reads the next sheet into the front of the space: its length as two little-endian bytes, then its bytes, as far as the space goes.
-pub fn next_sheet<R: Read>(file: &mut R, space: &mut [u8]) -> io::Result<Sheet> {
+// Reads the next sheet into the front of the space, and hands back how many bytes it has: its length stands as two little-endian bytes
+// before it, and is taken as far as the space goes. None where the file holds no whole sheet more.
+pub fn next_sheet<R: Read>(file: &mut R, space: &mut [u8]) -> io::Result<Option<usize>>
+    ensures { IfOk result (λ next. IfSome next (λ count. count ≤ length space.new)) }
+{
     let mut size = [0u8; 2];
     if !read(file, &mut size)? {
-        return Ok(Sheet::None);
+        return Ok(None);
     }
-    let count = least(length(&size, 0), space.len());
+    let count = length(&size, 0).min(space.len());
     if !read(file, &mut space[..count])? {
-        return Ok(Sheet::None);
+        return Ok(None);
     }
-    Ok(Sheet::Bytes(count))
+    Ok(Some(count))
+}
+
+// Answers the file `cases` piece by piece, until an answer says by `false` that the file holds no more.
+pub fn each<F: FnMut(&mut File) -> io::Result<bool>>(
+    rt: &impl Files<File = File>,
+    mut answer_next: F,
+) -> io::Result<()>
+    requires { (answers : _) (file : _) → F.pre answers file }
+{
+    let mut file = open(rt)?;
+    // a proved loop has to end, so it has more turns than any file of cases takes
+    for _ in 0..u32::MAX {
+        if !answer_next(&mut file)? {
+            break;
+        }
+    }
+    Ok(())
+}
+
+// Answers each record of the file `cases`. All are as long as the space that is lent for one.
+pub fn each_record<F: Fn(&[u8]) -> io::Result<()>>(
+    rt: &impl Files<File = File>,
+    record: &mut [u8],
+    answer: F,
+) -> io::Result<()>
+    requires { (answers : _) (bytes : _) → F.pre answers bytes }
+{
+    each(rt, |file| {
+        let more = read(file, record)?;
+        if more {
+            answer(record)?;
+        }
+        Ok(more)
+    })
+}
+
+// Answers each sheet of the file `cases`, as far as the space for one goes.
+pub fn each_sheet<F: Fn(&[u8])>(
+    rt: &impl Files<File = File>,
+    space: &mut [u8],
+    answer: F,
+) -> io::Result<()>
+    requires { (answers : _) (bytes : _) → F.pre answers bytes }
+{
+    each(rt, |file| {
+        let next = next_sheet(file, space)?;
+        if let Some(count) = next {
+            answer(&space[..count]);
+        }
+        Ok(next.is_some())
+    })
 }
 
 // The byte at a place; past the end it is 0.
@@ -63,11 +110,7 @@ pub fn byte(bytes: &[u8], at: usize) -> usize
     ensures value { result ≡ get_or bytes.now at 0 }
     ensures upper_bound { result < 256 }
 {
-    if at < bytes.len() {
-        bytes[at] as usize
-    } else {
-        0
-    }
+    bytes.get(at).copied().unwrap_or(0) as usize
 }
 
 // The length whose lowest byte stands at `at`. A place has fewer bits than the sums that it goes into, so that none wraps.
@@ -91,22 +134,8 @@ pub fn number(bytes: &[u8], at: u16) -> u32
 pub fn part(bytes: &[u8], from: usize, length: usize) -> &[u8]
     ensures { result.now ≡ take length (drop from bytes.now) }
 {
-    if from > bytes.len() {
-        return &bytes[..0];
-    }
-    let rest = &bytes[from..];
-    if length > rest.len() {
-        return rest;
-    }
-    &rest[..length]
-}
-
-// The smaller of two numbers: how much of a lent space a record asks for.
-pub fn least(one: usize, other: usize) -> usize
-    ensures value { result ≡ min one other }
-    ensures upper_bound { result ≤ other }
-{
-    if one < other { one } else { other }
+    let rest = &bytes[from.min(bytes.len())..];
+    &rest[..length.min(rest.len())]
 }
 
 // Prints a line's first number.
@@ -122,39 +151,25 @@ pub fn end_line(rt: &impl Print) -> io::Result<()> {
     println!(rt;)
 }
 
-fn wide(byte: u8) -> u32 {
-    byte as u32
-}
-
-// Takes one value of a buffer: prints it where the buffer is printed whole, and hands back the checksum with it in.
-// The checksum depends on every value and on their order.
-pub fn take(rt: &impl Print, whole: bool, checksum: u32, value: u32) -> io::Result<u32> {
-    if whole {
-        print_next(rt, value)?;
-    }
-    Ok(((checksum as u64 * 31 + value as u64) % 4294967291) as u32)
-}
-
-// Prints a buffer whole, or its checksum.
-pub fn print_bytes(rt: &impl Print, whole: bool, bytes: &[u8]) -> io::Result<()> {
-    let mut checksum = 1;
-    for byte in bytes {
-        checksum = take(rt, whole, checksum, wide(*byte))?;
-    }
+// Prints a buffer whole, or its checksum, which depends on every value and on their order.
+pub fn print_values<T: Copy + Into<u32>>(
+    rt: &impl Print,
+    whole: bool,
+    values: &[T],
+) -> io::Result<()> {
     if !whole {
-        print_next(rt, checksum)?;
+        let checksum = values
+            .iter()
+            .fold(1, |sum, value| with_next(sum, (*value).into()));
+        return print_next(rt, checksum);
+    }
+    for value in values {
+        print_next(rt, (*value).into())?;
     }
     Ok(())
 }
 
-// The same of 32-bit numbers: log entries, or counts.
-pub fn print_numbers(rt: &impl Print, whole: bool, numbers: &[u32]) -> io::Result<()> {
-    let mut checksum = 1;
-    for number in numbers {
-        checksum = take(rt, whole, checksum, *number)?;
-    }
-    if !whole {
-        print_next(rt, checksum)?;
-    }
-    Ok(())
+// A checksum with one value more in it.
+fn with_next(checksum: u32, value: u32) -> u32 {
+    ((checksum as u64 * 31 + value as u64) % 4294967291) as u32
 }

@@ -4,7 +4,6 @@
 // apart the places are and how many, and the value that is put there.
 #![tactic(auto)]
 
-use screening::Report;
 use std::fs::File;
 use std::io;
 
@@ -12,16 +11,10 @@ fn byte(bytes: &[u8], at: usize) -> u8 {
     test_records::byte(bytes, at) as u8
 }
 
-fn pattern_byte(pattern: &[u8], at: usize) -> u8 {
-    if pattern.len() == 0 {
-        return 0;
-    }
-    byte(pattern, at % pattern.len())
-}
-
+// Writes the pattern over and over; an empty one leaves the run as it is.
 fn fill(run: &mut [u8], pattern: &[u8]) {
-    for (at, place) in run.iter_mut().enumerate() {
-        *place = pattern_byte(pattern, at);
+    for (place, byte) in run.iter_mut().zip(pattern.iter().cycle()) {
+        *place = *byte;
     }
 }
 
@@ -48,10 +41,10 @@ fn change(run: &mut [u8], record: &[u8; 42], at: u8) {
     );
 }
 
-fn print_report(rt: &impl Print, report: Report) -> io::Result<()> {
+fn print_report(rt: &impl Print, report: Option<usize>) -> io::Result<()> {
     match report {
-        Report::Start(start) => println!(rt; "{start}"),
-        Report::None => println!(rt; "none"),
+        Some(start) => println!(rt; "{start}"),
+        None => println!(rt; "none"),
     }
 }
 
@@ -76,7 +69,7 @@ fn answer_pattern(
         return Ok(false);
     }
     let mut run = [0u8; 70000];
-    let length = test_records::least(test_records::number(record, 0) as usize, 70000);
+    let length = (test_records::number(record, 0) as usize).min(70000);
     answer(rt, record, space, &mut run[..length])?;
     Ok(true)
 }
@@ -88,17 +81,10 @@ fn answer_next(rt: &impl Print, file: &mut File) -> io::Result<bool> {
         return Ok(false);
     }
     let mut space = [0u8; 5000];
-    let length = test_records::least(test_records::length(&record, 4), 5000);
+    let length = test_records::length(&record, 4).min(5000);
     answer_pattern(rt, file, &record, &mut space[..length])
 }
 
-// A proved loop has to end, so it has more turns than any file of cases takes.
 fn main(rt: HostRuntime) -> io::Result<()> {
-    let mut file = test_records::open(&rt)?;
-    for _ in 0..u32::MAX {
-        if !answer_next(&rt, &mut file)? {
-            break;
-        }
-    }
-    Ok(())
+    test_records::each(&rt, |file| answer_next(&rt, file))
 }

@@ -6,7 +6,6 @@
 
 use halves::Selection;
 use selection::Selected;
-use std::fs::File;
 use std::io;
 
 // A record's numbers.
@@ -67,34 +66,17 @@ fn print_both(rt: &impl Print, record: &[u8], log: &mut [u32]) -> io::Result<()>
     );
     print_reply(rt, selected)?;
     print_plain(rt, s)?;
-    test_records::print_numbers(rt, test_records::byte(record, 42) == 1, log)?;
+    test_records::print_values(rt, test_records::byte(record, 42) == 1, log)?;
     test_records::end_line(rt)
 }
 
 // Lends a filled log of the record's length, so that what a call writes and what it leaves can both be seen.
 fn answer(rt: &impl Print, record: &[u8]) -> io::Result<()> {
     let mut log = [2779096485u32; 64];
-    let entries = test_records::least(test_records::length(record, 40), 64);
+    let entries = test_records::length(record, 40).min(64);
     print_both(rt, record, &mut log[..entries])
 }
 
-// Reads one record and answers it; false where the file holds no more.
-fn answer_next(rt: &impl Print, file: &mut File) -> io::Result<bool> {
-    let mut record = [0u8; 48];
-    if !test_records::read(file, &mut record)? {
-        return Ok(false);
-    }
-    answer(rt, &record)?;
-    Ok(true)
-}
-
-// A proved loop has to end, so it has more turns than any file of cases takes.
 fn main(rt: HostRuntime) -> io::Result<()> {
-    let mut file = test_records::open(&rt)?;
-    for _ in 0..u32::MAX {
-        if !answer_next(&rt, &mut file)? {
-            break;
-        }
-    }
-    Ok(())
+    test_records::each_record(&rt, &mut [0; 48], |record| answer(&rt, record))
 }

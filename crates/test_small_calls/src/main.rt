@@ -4,7 +4,6 @@
 #![tactic(auto)]
 
 use shares::{Joined, Shares};
-use std::fs::File;
 use std::io;
 
 fn print_shares(rt: &impl Print, answer: Shares) -> io::Result<()> {
@@ -42,23 +41,6 @@ fn answer(rt: &impl Print, bytes: &[u8]) -> io::Result<()> {
     }
 }
 
-// Reads one record and answers it; false where the file holds no more.
-fn answer_next(rt: &impl Print, file: &mut File) -> io::Result<bool> {
-    let mut record = [0u8; 64];
-    if !test_records::read(file, &mut record)? {
-        return Ok(false);
-    }
-    answer(rt, &record)?;
-    Ok(true)
-}
-
-// A proved loop has to end, so it has more turns than any file of cases takes.
 fn main(rt: HostRuntime) -> io::Result<()> {
-    let mut file = test_records::open(&rt)?;
-    for _ in 0..u32::MAX {
-        if !answer_next(&rt, &mut file)? {
-            break;
-        }
-    }
-    Ok(())
+    test_records::each_record(&rt, &mut [0; 64], |record| answer(&rt, record))
 }

@@ -1,2 +1,0 @@
--- The laws of the parts of a slice.
-pub mod Parts
