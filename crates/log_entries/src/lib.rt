@@ -6,6 +6,10 @@ ghost use Rattle.buffers.specs.Written.{written};
 ghost use Rattle.lookup.specs.Entry.{entry as entry_entry, kind_of, value_of};
 ghost use Rattle.log_entries.specs.Entries.{entries};
 
+mod parts;
+
+pub use parts::Parts;
+
 // Writes an entry for each kind and its value, from a position on. The calls have measured the log, so it has a `requires`.
 pub fn put(log: &mut [u32], position: usize, kinds: &[u8], values: &[u8])
     requires kinds_len { length kinds.now ≡ length values.now }

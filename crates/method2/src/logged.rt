@@ -8,7 +8,7 @@ ghost use Rattle.lookup.specs.Layout.{pass_lines, lines, layout_size};
 ghost use Rattle.lookup.specs.Row.{kinds, values as row_values, row_entry};
 ghost use Rattle.lookup.specs.Method2.{scratch_2, answer_2, head_2, pass_2, end_2, method_2};
 
-use crate::parts;
+use crate::parts::PARTS;
 use lookup::Case;
 
 // The calls have checked the case and measured the buffers, so it has a `requires`, and so have its parts.
@@ -32,7 +32,7 @@ fn put_first(case: Case, log: &mut [u32])
     requires head_2_in_bounds { length head_2 ≤ length log.old }
     ensures { log.new ≡ written log.old 0 (entries (kinds head_2) (row_values case [] 0 head_2)) }
 {
-    parts::put_head(log, head(case));
+    PARTS.put_head(log, head(case));
 }
 
 // The answer is read from the filled scratch.
@@ -47,7 +47,7 @@ fn put_last(case: Case, scratch: &[u8], log: &mut [u32]) -> u8
     let r3 = case.r3 as usize;
     let turns = bits::power(case.n) as u16;
     let answer = scratch[r3];
-    parts::put_end(log, turns, [case.r3 as u8, answer]);
+    PARTS.put_end(log, turns, [case.r3 as u8, answer]);
     answer
 }
 
@@ -65,7 +65,7 @@ fn fill(case: Case, table: &[u8], scratch: &mut [u8], log: &mut [u32])
         let values = turn(case, table, a);
         let to = values[1] as usize;
         scratch[to] = values[5];
-        parts::put_turn(log, a, values);
+        PARTS.put_turn(log, a, values);
     }
 }
 

@@ -8,7 +8,7 @@ ghost use Rattle.lookup.specs.Layout.{pass_lines, lines, layout_size};
 ghost use Rattle.lookup.specs.Row.{kinds, values as row_values, row_entry};
 ghost use Rattle.lookup.specs.Method3.{comparison_table, scratch_3, registers_3, answer_3, head_3, pass_3, end_3, method_3};
 
-use crate::parts;
+use crate::parts::PARTS;
 use lookup::Case;
 
 // The calls have checked the case and measured the buffers, so it has a `requires`, and so have its parts.
@@ -34,7 +34,7 @@ fn put_first(case: Case, log: &mut [u32])
     requires head_3_in_bounds { length head_3 ≤ length log.old }
     ensures { log.new ≡ written log.old 0 (entries (kinds head_3) (row_values case [] 0 head_3)) }
 {
-    parts::put_head(log, head(case));
+    PARTS.put_head(log, head(case));
 }
 
 // The answer is read from register b.
@@ -48,7 +48,7 @@ fn put_last(case: Case, registers: &[u8; 2], log: &mut [u32]) -> u8
     let b = case.b as usize;
     let turns = bits::power(case.n) as u16;
     let answer = registers[b];
-    parts::put_end(log, turns, [case.b as u8, answer]);
+    PARTS.put_end(log, turns, [case.b as u8, answer]);
     answer
 }
 
@@ -67,7 +67,7 @@ fn select(case: Case, table: &[u8], scratch: &[u8], registers: &mut [u8; 2], log
         let values = turn(case, table, scratch, a);
         let cmp = values[4] as usize;
         registers[cmp] = values[8];
-        parts::put_turn(log, a, values);
+        PARTS.put_turn(log, a, values);
     }
 }
 

@@ -6,7 +6,7 @@ use native.Mathlib.Omega.{arith}
 use lib.ListN.{length, get_or}
 use Rattle.buffers.specs.Written.{written, in_front}
 use Rattle.log_entries.specs.Entries.{entries}
-use Rattle.log_entries.proofs.Logging.{Logging, rows_entries, rows_room, rows_turns, none_passed, one_passed, passed_written, layout_passed}
+use Rattle.log_entries.proofs.Logging.{Logging, rows_entries, rows_turns, none_passed, one_passed, passed_written, layout_passed}
 use Rattle.lookup.specs.declared.Case.{Case}
 use Rattle.lookup.specs.Case.{Q}
 use Rattle.lookup.specs.Bounded.{Bounded}

@@ -10,7 +10,7 @@ ghost use Rattle.lookup.specs.Layout.{pass_lines, passes_lines, lines, layout_si
 ghost use Rattle.lookup.specs.Row.{kinds, values as row_values, row_entry};
 ghost use Rattle.lookup.specs.Method5.{copied, first_half, second_half, scratch_5, answer_5, head_5, first_pass_5, half_pass_5, end_5, method_5};
 
-use crate::parts;
+use crate::parts::{PARTS, put_first_turn, put_second_turn};
 use lookup::Case;
 
 // The calls have checked the case and measured the buffers, so it has a `requires`, and so have its parts.
@@ -34,7 +34,7 @@ fn put_first(case: Case, log: &mut [u32])
     requires head_5_in_bounds { length head_5 ≤ length log.old }
     ensures { log.new ≡ written log.old 0 (entries (kinds head_5) (row_values case [] 0 head_5)) }
 {
-    parts::put_head(log, head(case));
+    PARTS.put_head(log, head(case));
 }
 
 fn fill(case: Case, table: &[u8], scratch: &mut [u8], log: &mut [u32])
@@ -63,7 +63,7 @@ fn fill_first(case: Case, table: &[u8], scratch: &mut [u8], log: &mut [u32])
     for a in 0..turns {
         let values = first_turn(case, table, a);
         scratch[a as usize] = values[3];
-        parts::put_first_turn(log, a, values);
+        put_first_turn(log, a, values);
     }
 }
 
@@ -79,7 +79,7 @@ fn fill_second(case: Case, scratch: &mut [u8], log: &mut [u32])
     for a in 0..turns {
         let values = second_turn(case, scratch, a);
         scratch[turns as usize + a as usize] = values[3];
-        parts::put_second_turn(log, turns, a, values);
+        put_second_turn(log, turns, a, values);
     }
 }
 
@@ -94,7 +94,7 @@ fn put_last(case: Case, scratch: &[u8], log: &mut [u32]) -> u8
 {
     let turns = bits::power(case.n) as u16;
     let answer = crate::answer(case, scratch);
-    parts::put_end(log, turns, [case.x0 as u8, answer]);
+    PARTS.put_end(log, turns, [case.x0 as u8, answer]);
     answer
 }
 
