@@ -55,13 +55,10 @@ pub extern "C" fn cippazhey_select(
     ensures share1_after { share1.new ≡ plain_select_share 1 (selection_from width z0 z1 z2 c0 c1 c2 t1 t2 b) share1.old }
     ensures share2_after { share2.new ≡ plain_select_share 2 (selection_from width z0 z1 z2 c0 c1 c2 t1 t2 b) share2.old }
 {
-    let chosen = selection::plain_select(
+    let answer = selection::plain_select(
         width, z0, z1, z2, c0, c1, c2, t1, t2, b, share0, share1, share2,
     );
-    match chosen {
-        Ok(()) => 0,
-        Err(refusal) => refusal.number(),
-    }
+    refusals::refusal_number(&answer)
 }
 
 #[unsafe(no_mangle)]

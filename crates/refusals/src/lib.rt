@@ -4,7 +4,7 @@
 
 ghost use Rattle.std.specs.Prelude.{◌≡◌, ℕ, map};
 ghost use Rattle.refusals.specs.Tests.{outside as tests_outside, any_from};
-ghost use Rattle.refusals.specs.Numbers.{number_of};
+ghost use Rattle.refusals.specs.Numbers.{number_of, refusal_of};
 
 // Each reason by which a call refuses. docs/REFERENCE.md has the number of each, and says in words when it comes.
 #[derive(Clone, Copy, Debug, PartialEq, Eq)]
@@ -41,6 +41,16 @@ impl Refusal {
         ensures { result ≡ number_of self }
     {
         self as u32
+    }
+}
+
+// The number that an answer hands back: 0 where nothing is refused.
+pub fn refusal_number<T>(answer: &Result<T, Refusal>) -> u32
+    ensures { result ≡ refusal_of answer.now }
+{
+    match answer {
+        Ok(_) => 0,
+        Err(refusal) => refusal.number(),
     }
 }
 

@@ -28,8 +28,8 @@ pub extern "C" fn cippazhey_logged_call(
     ensures log_after { log.new ≡ logged_log (case_from method n m x0 r1 r2 s1 s2 r3 b) table.now scratch.old
         log.old }
 {
-    let called = calls::logged_call(method, n, m, x0, r1, r2, s1, s2, r3, b, table, scratch, log);
-    called.refusal
+    let answer = calls::logged_call(method, n, m, x0, r1, r2, s1, s2, r3, b, table, scratch, log);
+    refusals::refusal_number(&answer)
 }
 
 #[unsafe(no_mangle)]
@@ -49,6 +49,6 @@ pub extern "C" fn cippazhey_logged_select(
     ensures value { result ≡ (select_reply (selection_from width z0 z1 z2 c0 c1 c2 t1 t2 b) log.old).refusal }
     ensures log_after { log.new ≡ select_log (selection_from width z0 z1 z2 c0 c1 c2 t1 t2 b) log.old }
 {
-    let selected = selection::select(width, z0, z1, z2, c0, c1, c2, t1, t2, b, log);
-    selected.refusal
+    let chosen = selection::select(width, z0, z1, z2, c0, c1, c2, t1, t2, b, log);
+    refusals::refusal_number(&chosen)
 }
