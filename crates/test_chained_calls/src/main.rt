@@ -4,7 +4,8 @@
 // n is at most 2, and as a checksum each where it is larger.
 #![tactic(auto)]
 
-use chain::{Chained, Second};
+use chain::{ChainAnswered, Second};
+use refusals::Refusal;
 use std::io;
 
 // What the second call has of its own.
@@ -21,11 +22,17 @@ fn second_call(record: &[u8]) -> Second {
     }
 }
 
-fn print_reply(rt: &impl Print, chained: Chained) -> io::Result<()> {
-    test_records::print_first(rt, chained.refusal)?;
-    test_records::print_next(rt, chained.share)?;
-    test_records::print_next(rt, chained.first_count)?;
-    test_records::print_next(rt, chained.second_count)
+// Beside the number of a refusal zeros are printed.
+fn print_reply(rt: &impl Print, answer: Result<ChainAnswered, Refusal>) -> io::Result<()> {
+    test_records::print_first(rt, refusals::refusal_number(&answer))?;
+    let answered = answer.unwrap_or(ChainAnswered {
+        share: 0,
+        first_count: 0,
+        second_count: 0,
+    });
+    test_records::print_next(rt, answered.share)?;
+    test_records::print_next(rt, answered.first_count)?;
+    test_records::print_next(rt, answered.second_count)
 }
 
 // Prints the buffers of a case's two records as the call left them.
@@ -55,7 +62,7 @@ fn print_call(
     first_log: &mut [u32],
     second_log: &mut [u32],
 ) -> io::Result<()> {
-    let chained = chain::chained_call(
+    let answer = chain::chained_call(
         test_lookup_records::case(first),
         second_call(second),
         test_lookup_records::table(first),
@@ -65,7 +72,7 @@ fn print_call(
         first_log,
         second_log,
     );
-    print_reply(rt, chained)?;
+    print_reply(rt, answer)?;
     print_buffers(
         rt,
         first,

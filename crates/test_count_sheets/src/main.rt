@@ -27,9 +27,9 @@ fn print_call(
     sheet: &mut [u32],
 ) -> io::Result<()> {
     let table = test_records::part(record, 32, test_records::length(record, 24));
-    let refusal = count_sheet::count_sheet(pair(record), table, scratch, log, sheet);
+    let answer = count_sheet::count_sheet(pair(record), table, scratch, log, sheet);
     let whole = test_records::number(record, 4) <= 1;
-    test_records::print_first(rt, refusal)?;
+    test_records::print_first(rt, refusals::refusal_number(&answer))?;
     test_records::print_values(rt, whole, scratch)?;
     test_records::print_values(rt, whole, log)?;
     test_records::print_values(rt, true, sheet)?;

@@ -5,7 +5,8 @@
 // first 256 bytes, and whole what stands behind them.
 #![tactic(auto)]
 
-use frame::Encrypted;
+use frame::Ciphertext;
+use refusals::Refusal;
 use std::io;
 
 // The types of places grow from a block to its columns and bytes, so that no sum wraps.
@@ -33,11 +34,21 @@ fn block(record: &[u8], at: u8) -> [[u8; 4]; 4] {
     ]
 }
 
-fn print_line(rt: &impl Print, encrypted: Encrypted, scratch: &[u8]) -> io::Result<()> {
-    let share1 = encrypted.share1;
-    let share2 = encrypted.share2;
-    let share3 = encrypted.share3;
-    test_records::print_first(rt, encrypted.refusal)?;
+// Beside the number of a refusal zeros are printed.
+fn print_line(
+    rt: &impl Print,
+    answer: Result<Ciphertext, Refusal>,
+    scratch: &[u8],
+) -> io::Result<()> {
+    test_records::print_first(rt, refusals::refusal_number(&answer))?;
+    let ciphertext = answer.unwrap_or(Ciphertext {
+        share1: [0; 16],
+        share2: [0; 16],
+        share3: [0; 16],
+    });
+    let share1 = ciphertext.share1;
+    let share2 = ciphertext.share2;
+    let share3 = ciphertext.share3;
     test_records::print_values(rt, true, &share1)?;
     test_records::print_values(rt, true, &share2)?;
     test_records::print_values(rt, true, &share3)?;
@@ -58,7 +69,7 @@ fn soil(buffer: &mut [u8], first: u8, step: u8) {
 // Encrypts a record's frame on the scratch lent, which it soils first, and prints its line.
 fn print_frame(rt: &impl Print, record: &[u8], scratch: &mut [u8]) -> io::Result<()> {
     soil(scratch, byte(record, 68), byte(record, 69));
-    let encrypted = frame::encrypt_frame(
+    let answer = frame::encrypt_frame(
         block(record, 0),
         block(record, 16),
         block(record, 32),
@@ -66,7 +77,7 @@ fn print_frame(rt: &impl Print, record: &[u8], scratch: &mut [u8]) -> io::Result
         test_records::part(record, 70, test_records::length(record, 64)),
         scratch,
     );
-    print_line(rt, encrypted, scratch)
+    print_line(rt, answer, scratch)
 }
 
 fn answer(rt: &impl Print, record: &[u8]) -> io::Result<()> {

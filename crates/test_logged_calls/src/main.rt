@@ -3,19 +3,22 @@
 // whole where n is at most 2, and as a checksum each where it is larger.
 #![tactic(auto)]
 
-use lookup::Called;
+use lookup::Answered;
+use refusals::Refusal;
 use std::io;
 
+// Beside the number of a refusal zeros are printed.
 fn print_line(
     rt: &impl Print,
-    called: Called,
+    answer: Result<Answered, Refusal>,
     whole: bool,
     scratch: &[u8],
     log: &[u32],
 ) -> io::Result<()> {
-    test_records::print_first(rt, called.refusal)?;
-    test_records::print_next(rt, called.share)?;
-    test_records::print_next(rt, called.count)?;
+    test_records::print_first(rt, refusals::refusal_number(&answer))?;
+    let answered = answer.unwrap_or(Answered { share: 0, count: 0 });
+    test_records::print_next(rt, answered.share)?;
+    test_records::print_next(rt, answered.count)?;
     test_records::print_values(rt, whole, scratch)?;
     test_records::print_values(rt, whole, log)?;
     test_records::end_line(rt)
@@ -30,8 +33,8 @@ fn print_call(
 ) -> io::Result<()> {
     test_lookup_records::prepare(record, scratch);
     let table = test_lookup_records::table(record);
-    let called = calls::logged(test_lookup_records::case(record), table, scratch, log);
-    print_line(rt, called, test_lookup_records::whole(record), scratch, log)
+    let answer = calls::logged(test_lookup_records::case(record), table, scratch, log);
+    print_line(rt, answer, test_lookup_records::whole(record), scratch, log)
 }
 
 // Lends filled buffers of the record's lengths, so that what is cleared, what a call writes and what it leaves can all be seen.

@@ -5,7 +5,8 @@
 #![tactic(auto)]
 
 use halves::Selection;
-use selection::Selected;
+use refusals::Refusal;
+use selection::HalfShares;
 use std::io;
 
 // A record's numbers.
@@ -24,12 +25,19 @@ fn numbers(record: &[u8]) -> Selection {
     }
 }
 
-fn print_reply(rt: &impl Print, selected: Selected) -> io::Result<()> {
-    test_records::print_first(rt, selected.refusal)?;
-    test_records::print_next(rt, selected.first)?;
-    test_records::print_next(rt, selected.second)?;
-    test_records::print_next(rt, selected.third)?;
-    test_records::print_next(rt, selected.count)
+// Beside the number of a refusal zeros are printed.
+fn print_reply(rt: &impl Print, answer: Result<HalfShares, Refusal>) -> io::Result<()> {
+    test_records::print_first(rt, refusals::refusal_number(&answer))?;
+    let half = answer.unwrap_or(HalfShares {
+        first: 0,
+        second: 0,
+        third: 0,
+        count: 0,
+    });
+    test_records::print_next(rt, half.first)?;
+    test_records::print_next(rt, half.second)?;
+    test_records::print_next(rt, half.third)?;
+    test_records::print_next(rt, half.count)
 }
 
 // Makes the call without a log on filled places, and prints its refusal and what they then hold.
@@ -37,7 +45,7 @@ fn print_plain(rt: &impl Print, s: Selection) -> io::Result<()> {
     let mut share0 = 90u8;
     let mut share1 = 90u8;
     let mut share2 = 90u8;
-    let refusal = selection::plain_select(
+    let answer = selection::plain_select(
         s.width,
         s.z0,
         s.z1,
@@ -52,7 +60,7 @@ fn print_plain(rt: &impl Print, s: Selection) -> io::Result<()> {
         &mut share1,
         &mut share2,
     );
-    test_records::print_next(rt, refusal)?;
+    test_records::print_next(rt, refusals::refusal_number(&answer))?;
     test_records::print_next(rt, share0 as u32)?;
     test_records::print_next(rt, share1 as u32)?;
     test_records::print_next(rt, share2 as u32)
@@ -61,10 +69,10 @@ fn print_plain(rt: &impl Print, s: Selection) -> io::Result<()> {
 // Makes both calls, and prints their line.
 fn print_both(rt: &impl Print, record: &[u8], log: &mut [u32]) -> io::Result<()> {
     let s = numbers(record);
-    let selected = selection::select(
+    let answer = selection::select(
         s.width, s.z0, s.z1, s.z2, s.c0, s.c1, s.c2, s.t1, s.t2, s.b, log,
     );
-    print_reply(rt, selected)?;
+    print_reply(rt, answer)?;
     print_plain(rt, s)?;
     test_records::print_values(rt, test_records::byte(record, 42) == 1, log)?;
     test_records::end_line(rt)

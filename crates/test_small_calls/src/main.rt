@@ -3,20 +3,27 @@
 // little-endian u32 in the order of the call's parameters, byte 40 is the number of rows, and from byte 41 stand the rows.
 #![tactic(auto)]
 
-use shares::{Joined, Shares};
+use refusals::Refusal;
+use shares::Shares;
 use std::io;
 
-fn print_shares(rt: &impl Print, answer: Shares) -> io::Result<()> {
-    test_records::print_first(rt, answer.refusal)?;
-    test_records::print_next(rt, answer.first)?;
-    test_records::print_next(rt, answer.second)?;
-    test_records::print_next(rt, answer.third)?;
+// Beside the number of a refusal zeros are printed.
+fn print_shares(rt: &impl Print, answer: Result<Shares, Refusal>) -> io::Result<()> {
+    test_records::print_first(rt, refusals::refusal_number(&answer))?;
+    let shares = answer.unwrap_or(Shares {
+        first: 0,
+        second: 0,
+        third: 0,
+    });
+    test_records::print_next(rt, shares.first)?;
+    test_records::print_next(rt, shares.second)?;
+    test_records::print_next(rt, shares.third)?;
     test_records::end_line(rt)
 }
 
-fn print_joined(rt: &impl Print, answer: Joined) -> io::Result<()> {
-    test_records::print_first(rt, answer.refusal)?;
-    test_records::print_next(rt, answer.secret)?;
+fn print_secret(rt: &impl Print, answer: Result<u32, Refusal>) -> io::Result<()> {
+    test_records::print_first(rt, refusals::refusal_number(&answer))?;
+    test_records::print_next(rt, answer.unwrap_or(0))?;
     test_records::end_line(rt)
 }
 
@@ -32,7 +39,7 @@ fn answer(rt: &impl Print, bytes: &[u8]) -> io::Result<()> {
     let seven = test_records::number(bytes, 28);
     match test_records::byte(bytes, 0) {
         0 => print_shares(rt, shares::split(one, two, three, four)),
-        1 => print_joined(rt, shares::join(one, two, three, four)),
+        1 => print_secret(rt, shares::join(one, two, three, four)),
         2 => print_shares(rt, shares::add_key(one, two, three, four, five, six, seven)),
         _ => print_shares(
             rt,
