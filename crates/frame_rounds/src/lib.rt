@@ -113,13 +113,11 @@ pub fn ten(
 {
     let mut s = state;
     let mut key = first;
-    let mut i = 0;
-    while i < 9 {
+    for i in 0..9 {
         let next = next_key(key, i, random, table, scratch);
         key = next;
         let mixed = mix(s, i, key, random, table, scratch);
         s = mixed;
-        i += 1;
     }
     let last = next_key(key, 9, random, table, scratch);
     add_keys(substitute(s, 9, random, table, scratch), last)

@@ -1,20 +1,7 @@
 -- `frame_lookups::state_answers` meets its contract.
-use native.Mathlib.Omega.{arith}
 use Rattle.frame_lookups.proofs.Clearing.{four_clear}
 use Rattle.frame_lookups.proofs.Placed.{state_answers_made}
 use Rattle.frame_lookups.proofs.state_answers.Goals as goal
-
-pub column_answers-requires-clause-p_in_bounds : goal.column_answers-requires-clause-p_in_bounds
-column_answers-requires-clause-p_in_bounds c = omega arith
-
-pub column_answers-requires-2-clause-p_in_bounds : goal.column_answers-requires-2-clause-p_in_bounds
-column_answers-requires-2-clause-p_in_bounds c = omega arith
-
-pub column_answers-requires-3-clause-p_in_bounds : goal.column_answers-requires-3-clause-p_in_bounds
-column_answers-requires-3-clause-p_in_bounds c = omega arith
-
-pub column_answers-requires-4-clause-p_in_bounds : goal.column_answers-requires-4-clause-p_in_bounds
-column_answers-requires-4-clause-p_in_bounds c = omega arith
 
 pub returns-clause-value : goal.returns-clause-value
 returns-clause-value c =

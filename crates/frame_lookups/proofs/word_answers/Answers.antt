@@ -1,20 +1,7 @@
 -- `frame_lookups::word_answers` meets its contract.
-use native.Mathlib.Omega.{arith}
 use Rattle.frame_lookups.proofs.Clearing.{four_clear}
 use Rattle.frame_lookups.proofs.Placed.{word_answers_made}
 use Rattle.frame_lookups.proofs.word_answers.Goals as goal
-
-pub answer-requires-clause-p_in_bounds : goal.answer-requires-clause-p_in_bounds
-answer-requires-clause-p_in_bounds c = omega arith
-
-pub answer-requires-2-clause-p_in_bounds : goal.answer-requires-2-clause-p_in_bounds
-answer-requires-2-clause-p_in_bounds c = omega arith
-
-pub answer-requires-3-clause-p_in_bounds : goal.answer-requires-3-clause-p_in_bounds
-answer-requires-3-clause-p_in_bounds c = omega arith
-
-pub answer-requires-4-clause-p_in_bounds : goal.answer-requires-4-clause-p_in_bounds
-answer-requires-4-clause-p_in_bounds c = omega arith
 
 pub returns-clause-value : goal.returns-clause-value
 returns-clause-value c = search word_answers_made
