@@ -19,6 +19,7 @@ pub fn shift_rows(s: [[u8; 4]; 4]) -> [[u8; 4]; 4]
     ]
 }
 
+#[tactic(auto, using(crate::proofs::Made::four_made), unfolding(crate::specs::Steps::mix_columns, crate::specs::State::column))]
 pub fn mix_columns(s: [[u8; 4]; 4]) -> [[u8; 4]; 4]
     ensures { result ≡ steps_mix_columns s }
 {
@@ -30,6 +31,7 @@ pub fn mix_columns(s: [[u8; 4]; 4]) -> [[u8; 4]; 4]
     ]
 }
 
+#[tactic(auto, using(crate::proofs::Made::column_made))]
 fn mix_column(w: [u8; 4]) -> [u8; 4]
     ensures { result ≡ steps_mix_column w }
 {
@@ -61,6 +63,7 @@ pub fn add_words(u: [u8; 4], v: [u8; 4]) -> [u8; 4]
     [u[0] ^ v[0], u[1] ^ v[1], u[2] ^ v[2], u[3] ^ v[3]]
 }
 
+#[tactic(auto, using(crate::proofs::Made::four_made), unfolding(crate::specs::Steps::add_round_key, crate::specs::State::column))]
 pub fn add_round_key(s: [[u8; 4]; 4], k: [[u8; 4]; 4]) -> [[u8; 4]; 4]
     ensures { result ≡ steps_add_round_key s k }
 {
@@ -72,6 +75,7 @@ pub fn add_round_key(s: [[u8; 4]; 4], k: [[u8; 4]; 4]) -> [[u8; 4]; 4]
     ]
 }
 
+#[tactic(auto, unfolding(crate::specs::Expansion::rot_word, crate::specs::State::four, table::specs::Balanced::at))]
 pub fn rot_word(w: [u8; 4]) -> [u8; 4]
     ensures { result ≡ expansion_rot_word w }
 {
@@ -90,6 +94,7 @@ pub fn rcon(i: usize) -> [u8; 4]
 }
 
 // The next round key's words; `changed` is the last word, substituted, as it goes into the first.
+#[tactic(auto, using(crate::proofs::Made::words_made))]
 pub fn next_words(k: [[u8; 4]; 4], changed: [u8; 4]) -> [[u8; 4]; 4]
     ensures { result ≡ expansion_next_words k changed }
 {
@@ -101,6 +106,7 @@ pub fn next_words(k: [[u8; 4]; 4], changed: [u8; 4]) -> [[u8; 4]; 4]
 }
 
 // Four bytes from a position on, and sixteen as a state. The caller has measured the bytes, so these have a `requires`.
+#[tactic(auto, using(crate::proofs::Made::state_from_made))]
 pub fn state_from(bytes: &[u8], p: usize) -> [[u8; 4]; 4]
     requires { p + 15 < length bytes.now }
     ensures { result ≡ state_state_from bytes.now p }
@@ -113,6 +119,7 @@ pub fn state_from(bytes: &[u8], p: usize) -> [[u8; 4]; 4]
     ]
 }
 
+#[tactic(auto, using(crate::proofs::Made::word_from_made))]
 fn word_from(bytes: &[u8], p: usize) -> [u8; 4]
     requires { p + 3 < length bytes.now }
     ensures { result ≡ state_word_from bytes.now p }

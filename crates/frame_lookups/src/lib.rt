@@ -22,6 +22,7 @@ ghost use Rattle.frame_lookups.specs.Lookups.{
 use lookup::Case;
 
 // Clears the first 256 bytes.
+#[tactic(auto, using(crate::proofs::Clearing::part_cleared))]
 pub fn clear(scratch: &mut [u8])
     requires { 256 ≤ length scratch.old }
     ensures { scratch.new ≡ cleared scratch.old }
@@ -44,6 +45,7 @@ fn run(case: Case, table: &[u8], scratch: &mut [u8]) -> u8
 }
 
 // A case of bytes: nothing of it is left to check.
+#[tactic(auto, using(crate::proofs::Cases::bytes_bounded), unfolding(crate::specs::Lookups::case_2))]
 fn make_case(x0: u8, r1: u8, r2: u8, s1: u8, s2: u8, r3: u8) -> Case
     ensures value { result ≡ case_2 x0 r1 r2 s1 s2 r3 }
     ensures bounded { Bounded result }
@@ -79,6 +81,7 @@ fn answer(x0: u8, r1: u8, r2: u8, random: &[u8], p: usize, table: &[u8], scratch
 }
 
 // The answers for a word in three shares, and the masks s1 of its lookups; from p + 1 on, their s2.
+#[tactic(auto, using(crate::proofs::Placed::word_answers_made, crate::proofs::Clearing::four_clear))]
 pub fn word_answers(
     u: [u8; 4],
     v: [u8; 4],
@@ -102,6 +105,7 @@ pub fn word_answers(
     ]
 }
 
+#[tactic(auto, using(crate::proofs::Placed::word_masks_made))]
 pub fn word_masks(random: &[u8], p: usize) -> [u8; 4]
     requires { p + 9 < length random.now }
     ensures { result ≡ lookups_word_masks random.now p }
@@ -110,6 +114,7 @@ pub fn word_masks(random: &[u8], p: usize) -> [u8; 4]
 }
 
 // The same for a state, column by column.
+#[tactic(auto, using(crate::proofs::Placed::state_answers_made, crate::proofs::Clearing::four_clear))]
 pub fn state_answers(
     s: [[[u8; 4]; 4]; 3],
     random: &[u8],
@@ -134,6 +139,7 @@ pub fn state_answers(
     ]
 }
 
+#[tactic(auto, unfolding(crate::specs::Lookups::column_answers, aes::specs::State::column, crate::specs::Shares::share))]
 fn column_answers(
     s: [[[u8; 4]; 4]; 3],
     c: usize,
@@ -152,6 +158,7 @@ fn column_answers(
     word_answers(s[0][c], s[1][c], s[2][c], random, p, table, scratch)
 }
 
+#[tactic(auto, using(crate::proofs::Placed::state_masks_made))]
 pub fn state_masks(random: &[u8], p: usize) -> [[u8; 4]; 4]
     requires { p + 45 < length random.now }
     ensures { result ≡ lookups_state_masks random.now p }
@@ -165,6 +172,7 @@ pub fn state_masks(random: &[u8], p: usize) -> [[u8; 4]; 4]
 }
 
 // Where a lookup's random bytes begin; rounds are counted from 0.
+#[tactic(auto, unfolding(crate::specs::Lookups::position))]
 pub fn position(round: usize, lookup: usize) -> usize
     requires round_bound { round < 10 }
     requires lookup_bound { lookup < 20 }

@@ -1,14 +1,10 @@
 -- `frame_lookups::run` meets its contract.
-use native.Mathlib.Omega.{arith}
 use Rattle.frame_lookups.proofs.Cases.{table_long, answer_of}
 use Rattle.frame_lookups.proofs.Clearing.{scratch_of, cleared_after}
 use Rattle.frame_lookups.proofs.run.Goals as goal
 
 pub run-requires-clause-table_len : goal.run-requires-clause-table_len
 run-requires-clause-table_len c = search table_long
-
-pub run-requires-clause-n_in_bounds : goal.run-requires-clause-n_in_bounds
-run-requires-clause-n_in_bounds c = omega arith
 
 pub returns-clause-scratch_after : goal.returns-clause-scratch_after
 returns-clause-scratch_after c = search scratch_of

@@ -1,42 +1,20 @@
 use borrow.Author.Rules.{rules}
-use native.Mathlib.Omega.{arith}
 use Rattle.frame_rounds.proofs.Turning.{turning_begins, turning_turns, turning_ends, turning_kept, turning_room}
 use Rattle.frame_rounds.proofs.ten.Goals as goal
 
 pub loop-i-init : goal.loop-i-init
 loop-i-init c = search turning_begins
 
-pub next_key-next-requires-clause-i_bound : goal.next_key-next-requires-clause-i_bound
-next_key-next-requires-clause-i_bound c = omega arith
-
 pub next_key-next-requires-clause-in_bounds : goal.next_key-next-requires-clause-in_bounds
 next_key-next-requires-clause-in_bounds c = search turning_room
-
-pub mix-mixed-requires-clause-i_bound : goal.mix-mixed-requires-clause-i_bound
-mix-mixed-requires-clause-i_bound c = omega arith
-
-pub mix-mixed-requires-clause-in_bounds : goal.mix-mixed-requires-clause-in_bounds
-mix-mixed-requires-clause-in_bounds c = omega arith
-
-pub loop-i-smaller : goal.loop-i-smaller
-loop-i-smaller c = omega arith
 
 pub loop-i-preserved : goal.loop-i-preserved
 loop-i-preserved c =
     turning_turns _ _ _ _ _ _ _ _ _ _ _ _ (search rules) c.next_key-next.ensures.value c.next_key-next.ensures.scratch_unchanged (search rules)
     c.mix-mixed.ensures.value c.mix-mixed.ensures.scratch_unchanged (search rules) c.loop-i.invariant
 
-pub next_key-last-requires-clause-i_bound : goal.next_key-last-requires-clause-i_bound
-next_key-last-requires-clause-i_bound c = omega arith
-
 pub next_key-last-requires-clause-in_bounds : goal.next_key-last-requires-clause-in_bounds
 next_key-last-requires-clause-in_bounds c = search turning_room
-
-pub substitute-requires-clause-i_bound : goal.substitute-requires-clause-i_bound
-substitute-requires-clause-i_bound c = omega arith
-
-pub substitute-requires-clause-in_bounds : goal.substitute-requires-clause-in_bounds
-substitute-requires-clause-in_bounds c = omega arith
 
 pub returns-clause-value : goal.returns-clause-value
 returns-clause-value c = search turning_ends
