@@ -1,11 +1,10 @@
 -- The methods by their numbers: what is proved of each holds of the one that a number finds.
-use mathlib.Core.Path.{◌≡◌, refl, sym, ap, ◌∙◌}
-use mathlib.Core.Bool.{Bool, true, false, cond, ◌||◌, true≢false, or-false}
+use mathlib.Core.Path.{◌≡◌, refl, sym, ap}
+use mathlib.Core.Bool.{Bool, true, false, cond, ◌||◌, true≢false}
 use mathlib.Core.List.{List}
 use Prim.Native.Nat.{ℕ}
-use borrow.Author.Tests.{ne_eqb}
 use lib.Dec.{eqb}
-use Rattle.lookup.specs.Method.{Method, no_method}
+use Rattle.lookup.specs.Method.{Method}
 use Rattle.lookup.specs.Method2.{method_2}
 use Rattle.lookup.specs.Method3.{method_3}
 use Rattle.lookup.specs.Method5.{method_5}
@@ -42,17 +41,3 @@ method_3_of k e = ap method_of e
 pub method_5_of : (k : ℕ) → k ≡ 5 → method_of k ≡ method_5
 unfolding method_of found
 method_5_of k e = ap method_of e
-
--- or it is none's
-module _ (k : ℕ) (not_2 : k ≡ 2 → ⊥) (not_3 : k ≡ 3 → ⊥) where
-  pub last_known : known k ≡ eqb k 5
-  unfolding known among
-  last_known = rw (ne_eqb k 2 not_2, ne_eqb k 3 not_3) (or-false (eqb k 5))
-
-  module _ (not_5 : k ≡ 5 → ⊥) where
-    pub not_known : known k ≡ false
-    not_known = last_known ∙ ne_eqb k 5 not_5
-
-    pub no_method_of : method_of k ≡ no_method
-    unfolding method_of found
-    no_method_of = rw (ne_eqb k 2 not_2, ne_eqb k 3 not_3, ne_eqb k 5 not_5)

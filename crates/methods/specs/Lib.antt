@@ -1,0 +1,2 @@
+-- What the code's methods are.
+pub mod Numbered
