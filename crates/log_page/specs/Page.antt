@@ -57,10 +57,6 @@ unfoldable pub page_of : (log : List ℕ) → List ℕ
 page_of log = lines_of_five (lines_needed (length log)) log ++ kind_lines kind_limit log ++ total_line (length log)
 
 -- HOW IT IS PRINTED
--- where the line ends that begins at this position of a log of this size
-unfoldable pub line_end : (first size : ℕ) → ℕ
-line_end first size = cond (leb (first + 5) size) (first + 5) size
-
 -- the counts of the kinds of a log
 pub record KindsCounted (log counts : List ℕ) : Type 0 where
   pub counted : (kind : ℕ) → kind < kind_limit → get_or counts kind 0 ≡ often kind log
