@@ -1,11 +1,9 @@
 -- How entries are printed side by side, and a line of them.
 use mathlib.Core.Path.{◌≡◌, refl, sym, ap, ◌∙◌}
 use mathlib.Core.List.{List, [], ◌∷◌, ◌++◌}
-use Prim.Native.Nat.{ℕ, ◌+◌, ◌*◌, ◌-◌, ◌^◌, ◌≤◌, ◌<◌}
+use Prim.Native.Nat.{ℕ, ◌+◌, ◌*◌, ◌-◌, ◌≤◌, ◌<◌}
 use native.Mathlib.Omega.{arith}
-use mir.Syntax.{w64}
-use mir.Val.{Fits}
-use lib.ListN.{length, get_or, set, length-append, length-set}
+use lib.ListN.{length, get_or, set, length-append}
 use Rattle.buffers.specs.Written.{written}
 use Rattle.buffers.proofs.Written.{written_more, written_long, set_written}
 use Rattle.buffers.proofs.Blocks.{blocks, numbered_blocks, blocks_long, Stacking, stacking_turns, stacking_ends}
@@ -98,7 +96,3 @@ line_left before first second at position entries few room e f =
     let size : length second ≡ length before = ap length pair ∙ written_long before at (line ++ gap) (omega (arith, whole)) in
     set_written second (at + 80) 10 (omega arith)
     ∙ rw pair (written_more before at (at + 80) (line ++ gap) (10 ∷ []) whole (omega arith))
-
-pub line_size : (before first second : List ℕ) (i byte : ℕ) → length first ≡ length before → length second ≡ length first
-    → length (set second i byte) ≡ length before
-line_size before first second i byte e f = length-set second i byte ∙ f ∙ e

@@ -1,5 +1,5 @@
 -- The wall-cabinet page of a log. Numbers are right-justified in their columns; 32 is a space, and each line is ended by a line feed (10).
-use Rattle.std.specs.Prelude.{◌≡◌, cond, List, [], ◌∷◌, ◌++◌, map, ℕ, zero, suc, ◌+◌, ◌*◌, ◌-◌, ◌/◌, ◌<◌, leb, length, get_or, take, drop, replicate}
+use Rattle.std.specs.Prelude.{◌≡◌, List, [], ◌∷◌, ◌++◌, map, ℕ, zero, suc, ◌+◌, ◌*◌, ◌-◌, ◌/◌, ◌<◌, length, get_or, take, drop, replicate}
 use Rattle.table.specs.Balanced.{count_of}
 use Rattle.field.specs.Printed.{printed}
 use Rattle.lookup.specs.Entry.{kind_of, value_of, kind_limit}
