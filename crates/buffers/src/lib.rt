@@ -7,20 +7,12 @@ ghost use Rattle.std.specs.Prelude.{◌≡◌, length, replicate};
 pub fn clear(buffer: &mut [u8])
     ensures { buffer.new ≡ replicate (length buffer.old) 0 }
 {
-    let mut i = 0;
-    while i < buffer.len() {
-        buffer[i] = 0;
-        i += 1;
-    }
+    buffer.fill(0);
 }
 
 // The same of a buffer of 32-bit numbers: log entries, or counts.
 pub fn clear_numbers(numbers: &mut [u32])
     ensures { numbers.new ≡ replicate (length numbers.old) 0 }
 {
-    let mut at = 0;
-    while at < numbers.len() {
-        numbers[at] = 0;
-        at += 1;
-    }
+    numbers.fill(0);
 }

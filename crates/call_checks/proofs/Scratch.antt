@@ -38,18 +38,6 @@ module _ (c : Case) (scratch : List ℕ) (size : ℕ) (s : size ≡ scratch_leng
 nonzero : (b : ℕ) → leb 1 (suc b) ≡ true
 nonzero b = le-leb 1 (suc b) (omega arith)
 
--- which cell a byte marks
-pub cell_is : (b : ℕ) → b < 256 → (b + 255) / 256 ≡ cond (leb 1 b) 1 0
-cell_is zero h = refl
-cell_is (suc b) h = rw (nonzero b) (omega arith)
-
-pub cell_within : (b at : ℕ) → at ≡ cond (leb 1 b) 1 0 → at < 2
-cell_within b at e = rw e (one_or_none (leb 1 b))
-  where
-    one_or_none : (t : Bool) → cond t 1 0 < 2
-    one_or_none true = omega arith
-    one_or_none false = omega arith
-
 -- the cells after i bytes: the second is marked just if one of them is not zero
 pub record Marked (scratch cells : List ℕ) (size i : ℕ) : Type 0 where
   pub two : length cells ≡ 2

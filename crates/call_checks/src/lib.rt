@@ -1,106 +1,93 @@
 // The refusals of the logged and the plain call, each list of checks in its order, in the parts that a chain takes one by one.
 #![tactic(auto)]
 
+ghost use Rattle.refusals.specs.Numbers.{refusal_of};
 ghost use Rattle.std.specs.Prelude.{◌≡◌, cond, ◌≤◌, leb, length};
 ghost use Rattle.refusals.specs.Checks.{first_of};
 ghost use Rattle.lookup.specs.Refusals.{mask_checks, scratch_checks, box_checks, other_checks, untaken as refusals_untaken, dirty as refusals_dirty};
 ghost use Rattle.lookup.specs.Refusals.{case_refusal, plain_refusal, logged_refusal};
 
 use lookup::Case;
+use refusals::Refusal;
 
 // 2 to 7, 10 to 13, 19 and 14
-pub fn refused_logged(case: Case, table: &[u8], scratch: &[u8], log: &[u32]) -> u32
-    ensures { result ≡ logged_refusal case table.now scratch.now log.now }
+pub fn refused_logged(case: Case, table: &[u8], scratch: &[u8], log: &[u32]) -> Result<(), Refusal>
+    ensures { refusal_of result ≡ logged_refusal case table.now scratch.now log.now }
 {
-    let refusal = refused_box(case, table);
-    if refusal != 0 {
-        return refusal;
-    }
+    refused_box(case, table)?;
     refused_other(case, scratch, log)
 }
 
 // 2 to 7, 10 to 13, and 19
-pub fn refused_plain(case: Case, table: &[u8], scratch: &[u8]) -> u32
-    ensures { result ≡ plain_refusal case table.now scratch.now }
+pub fn refused_plain(case: Case, table: &[u8], scratch: &[u8]) -> Result<(), Refusal>
+    ensures { refusal_of result ≡ plain_refusal case table.now scratch.now }
 {
-    let refusal = refused_case(case, table);
-    if refusal != 0 {
-        return refusal;
-    }
+    refused_case(case, table)?;
     refused_scratch(case, scratch)
 }
 
 // 2 to 7, and 10 to 12
-fn refused_case(case: Case, table: &[u8]) -> u32
-    ensures { result ≡ case_refusal case table.now }
+fn refused_case(case: Case, table: &[u8]) -> Result<(), Refusal>
+    ensures { refusal_of result ≡ case_refusal case table.now }
 {
-    let refusal = refused_box(case, table);
-    if refusal != 0 {
-        return refusal;
-    }
+    refused_box(case, table)?;
     refused_masks(case)
 }
 
 // 2 to 7
-pub fn refused_box(case: Case, table: &[u8]) -> u32
-    ensures { result ≡ first_of (box_checks case table.now) }
+pub fn refused_box(case: Case, table: &[u8]) -> Result<(), Refusal>
+    ensures { refusal_of result ≡ first_of (box_checks case table.now) }
 {
     if !methods::known(case.method) {
-        return 2;
+        return Err(Refusal::UnknownMethod);
     }
     table::table_refusal(case.n, case.m, table)
 }
 
 // A logged call's other checks: 10 to 13, 19 and 14. The widths have been checked, so it has a `requires`.
-pub fn refused_other(case: Case, scratch: &[u8], log: &[u32]) -> u32
+pub fn refused_other(case: Case, scratch: &[u8], log: &[u32]) -> Result<(), Refusal>
     requires n_bound { case.n ≤ 8 }
     requires m_bound { case.m ≤ 8 }
-    ensures { result ≡ first_of (other_checks case scratch.now log.now) }
+    ensures { refusal_of result ≡ first_of (other_checks case scratch.now log.now) }
 {
-    let of_masks = refused_masks(case);
-    if of_masks != 0 {
-        return of_masks;
-    }
-    let of_scratch = refused_scratch(case, scratch);
-    if of_scratch != 0 {
-        return of_scratch;
-    }
+    refused_masks(case)?;
+    refused_scratch(case, scratch)?;
     if log.len() < methods::log_length(case.method, case.n) {
-        return 14;
+        return Err(Refusal::ShortLog);
     }
-    0
+    Ok(())
 }
 
 // 10 to 12. The widths have been checked, so it has a `requires`.
-fn refused_masks(case: Case) -> u32
+fn refused_masks(case: Case) -> Result<(), Refusal>
     requires n_bound { case.n ≤ 8 }
     requires m_bound { case.m ≤ 8 }
-    ensures { result ≡ first_of (mask_checks case) }
+    ensures { refusal_of result ≡ first_of (mask_checks case) }
 {
     let inputs = bits::power(case.n);
     if inputs <= case.x0 {
-        return 10;
+        return Err(Refusal::Input);
     }
     if inputs <= case.r1 {
-        return 10;
+        return Err(Refusal::Input);
     }
     if inputs <= case.r2 {
-        return 10;
+        return Err(Refusal::Input);
     }
     if inputs <= case.r3 {
-        return 10;
+        return Err(Refusal::Input);
     }
     let outputs = bits::power(case.m);
     if outputs <= case.s1 {
-        return 11;
+        return Err(Refusal::OutputMask);
     }
     if outputs <= case.s2 {
-        return 11;
+        return Err(Refusal::OutputMask);
     }
     if untaken(case) {
-        return 12;
+        return Err(Refusal::UntakenMask);
     }
-    0
+    Ok(())
 }
 
 // An r3 or a b that the method does not take. The width has been checked, so it has a `requires`.
@@ -115,18 +102,18 @@ fn untaken(case: Case) -> bool
 }
 
 // 13 and 19. The width has been checked, so it has a `requires`.
-fn refused_scratch(case: Case, scratch: &[u8]) -> u32
+fn refused_scratch(case: Case, scratch: &[u8]) -> Result<(), Refusal>
     requires { case.n ≤ 8 }
-    ensures { result ≡ first_of (scratch_checks case scratch.now) }
+    ensures { refusal_of result ≡ first_of (scratch_checks case scratch.now) }
 {
     let size = methods::scratch_length(case.method, case.n);
     if scratch.len() < size as usize {
-        return 13;
+        return Err(Refusal::ShortScratch);
     }
     if dirty(scratch, size) {
-        return 19;
+        return Err(Refusal::DirtyScratch);
     }
-    0
+    Ok(())
 }
 
 // Whether one of the first bytes is not zero. What an earlier call left is handled a byte at a time, and no value is formed of two bytes but
@@ -138,11 +125,9 @@ fn dirty(scratch: &[u8], size: u16) -> bool
     ensures { result ≡ refusals_dirty size scratch.now }
 {
     let mut cells: [u8; 2] = [0, 0];
-    let mut i: u16 = 0;
-    while i < size {
+    for i in 0..size {
         let at = cell(scratch[i as usize]);
         cells[at] = 1;
-        i += 1;
     }
     cells[1] != 0
 }

@@ -3,7 +3,7 @@ use Rattle.std.specs.Prelude.{List, ℕ, zero, suc}
 use Rattle.refusals.specs.Left.{left}
 use Rattle.buffers.specs.Written.{in_front}
 use Rattle.lookup.specs.declared.Case.{Case}
-use Rattle.lookup.specs.declared.Called.{Called}
+use Rattle.lookup.specs.Called.{Called}
 use Rattle.lookup.specs.Call.{answer, scratch_after, log_of, log_length}
 use Rattle.lookup.specs.Refusals.{plain_refusal, logged_refusal}
 

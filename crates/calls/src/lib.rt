@@ -3,9 +3,11 @@
 
 ghost use Rattle.std.specs.Prelude.{◌≡◌};
 ghost use Rattle.lookup.specs.Refusals.{logged_refusal};
+ghost use Rattle.lookup.specs.Called.{handed_call};
 ghost use Rattle.calls.specs.Reply.{case_from, plain_reply, plain_scratch, logged_reply, logged_scratch, logged_log};
 
-use lookup::{Called, Case};
+use lookup::{Answered, Case};
+use refusals::Refusal;
 
 // The lookup with every value that it handles in the log. It is for the bench; it returns the answer share and the count of entries. The
 // scratch must begin with zeros, and is left used: its caller clears it (`buffers::clear`).
@@ -23,8 +25,8 @@ pub fn logged_call(
     table: &[u8],
     scratch: &mut [u8],
     log: &mut [u32],
-) -> Called
-    ensures value { result ≡ logged_reply (case_from method n m x0 r1 r2 s1 s2 r3 b) table.now scratch.old
+) -> Result<Answered, Refusal>
+    ensures value { handed_call result ≡ logged_reply (case_from method n m x0 r1 r2 s1 s2 r3 b) table.now scratch.old
         log.old }
     ensures scratch_after { scratch.new ≡ logged_scratch (case_from method n m x0 r1 r2 s1 s2 r3 b) table.now
         scratch.old log.old }
@@ -64,8 +66,8 @@ pub fn plain_call(
     b: u32,
     table: &[u8],
     scratch: &mut [u8],
-) -> Called
-    ensures value { result ≡ plain_reply (case_from method n m x0 r1 r2 s1 s2 r3 b) table.now scratch.old }
+) -> Result<Answered, Refusal>
+    ensures value { handed_call result ≡ plain_reply (case_from method n m x0 r1 r2 s1 s2 r3 b) table.now scratch.old }
     ensures scratch_after { scratch.new ≡ plain_scratch (case_from method n m x0 r1 r2 s1 s2 r3 b) table.now
         scratch.old }
 {
@@ -88,54 +90,43 @@ pub fn plain_call(
 }
 
 // The same of a case: what `logged_call` is to ten numbers.
-pub fn logged(case: Case, table: &[u8], scratch: &mut [u8], log: &mut [u32]) -> Called
-    ensures value { result ≡ logged_reply case table.now scratch.old log.old }
+pub fn logged(
+    case: Case,
+    table: &[u8],
+    scratch: &mut [u8],
+    log: &mut [u32],
+) -> Result<Answered, Refusal>
+    ensures value { handed_call result ≡ logged_reply case table.now scratch.old log.old }
     ensures scratch_after { scratch.new ≡ logged_scratch case table.now scratch.old log.old }
     ensures log_after { log.new ≡ logged_log case table.now scratch.old log.old }
 {
-    let refusal = call_checks::refused_logged(case, table, scratch, log);
-    if refusal != 0 {
-        return Called {
-            refusal,
-            share: 0,
-            count: 0,
-        };
-    }
-    run_accepted(case, table, scratch, log)
+    call_checks::refused_logged(case, table, scratch, log)?;
+    Ok(run_accepted(case, table, scratch, log))
 }
 
 // The run of a logged call that is accepted. Its caller has made the checks, so it has a `requires`.
-pub fn run_accepted(case: Case, table: &[u8], scratch: &mut [u8], log: &mut [u32]) -> Called
+pub fn run_accepted(case: Case, table: &[u8], scratch: &mut [u8], log: &mut [u32]) -> Answered
     requires { logged_refusal case table.now scratch.old log.old ≡ 0 }
-    ensures value { result ≡ logged_reply case table.now scratch.old log.old }
+    ensures value { handed_call (Ok result) ≡ logged_reply case table.now scratch.old log.old }
     ensures scratch_after { scratch.new ≡ logged_scratch case table.now scratch.old log.old }
     ensures log_after { log.new ≡ logged_log case table.now scratch.old log.old }
 {
     let count = methods::log_length(case.method, case.n);
     let share = methods::run_logged(case, table, scratch, log);
-    Called {
-        refusal: 0,
+    Answered {
         share: share as u32,
         count: count as u32,
     }
 }
 
-fn plain(case: Case, table: &[u8], scratch: &mut [u8]) -> Called
-    ensures value { result ≡ plain_reply case table.now scratch.old }
+fn plain(case: Case, table: &[u8], scratch: &mut [u8]) -> Result<Answered, Refusal>
+    ensures value { handed_call result ≡ plain_reply case table.now scratch.old }
     ensures scratch_after { scratch.new ≡ plain_scratch case table.now scratch.old }
 {
-    let refusal = call_checks::refused_plain(case, table, scratch);
-    if refusal != 0 {
-        return Called {
-            refusal,
-            share: 0,
-            count: 0,
-        };
-    }
+    call_checks::refused_plain(case, table, scratch)?;
     let share = methods::run(case, table, scratch);
-    Called {
-        refusal,
+    Ok(Answered {
         share: share as u32,
         count: 0,
-    }
+    })
 }

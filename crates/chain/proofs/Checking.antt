@@ -69,37 +69,41 @@ module _ (first : Case) (second : Second) where
         ∙ append_assoc (box ++ box') (widths ∷ []) (other ++ other')
         ∙ append_assoc box box' (widths ∷ (other ++ other')))
 
-    module _ (later : Case) (same : later ≡ second_case first second 0) (j : ℕ) (told : j ≡ first_of box) where
-      pub at_first_box : (j ≡ 0 → ⊥) → j ≡ whole
-      at_first_box h = stops_both box _ told h ∙ sym chain_parts
+    module _ (later : Case) (same : later ≡ second_case first second 0) where
+      pub at_first_box : (j : ℕ) → j ≡ first_of box → (j ≡ 0 → ⊥) → j ≡ whole
+      at_first_box j told h = stops_both box _ told h ∙ sym chain_parts
 
-      behind_first_box : {r : ℕ} → j ≡ 0 → r ≡ first_of (box' ++ (widths ∷ (other ++ other'))) → r ≡ whole
-      behind_first_box z h = goes_both box _ (box_numbered first S) (sym z ∙ told) h ∙ sym chain_parts
+      box_told : {k : ℕ} → k ≡ first_of (box_checks later T) → k ≡ first_of box'
+      unfolding following
+      box_told told = told ∙ ap first_of (ap (λ c. box_checks c T) same ∙ box_unseen (answer first S) T)
 
-      module _ (k : ℕ) (told' : k ≡ first_of (box_checks later T)) (z : j ≡ 0) where
-        box_told : k ≡ first_of box'
-        unfolding following
-        box_told = told' ∙ ap first_of (ap (λ c. box_checks c T) same ∙ box_unseen (answer first S) T)
+      -- the first's box has passed
+      module _ (told : 0 ≡ first_of box) where
+        behind_first_box : {r : ℕ} → r ≡ first_of (box' ++ (widths ∷ (other ++ other'))) → r ≡ whole
+        behind_first_box h = goes_both box _ (box_numbered first S) told h ∙ sym chain_parts
 
-        pub at_second_box : (k ≡ 0 → ⊥) → k ≡ whole
-        at_second_box h = behind_first_box z (stops_both box' _ box_told h)
+        pub at_second_box : (k : ℕ) → k ≡ first_of (box_checks later T) → (k ≡ 0 → ⊥) → k ≡ whole
+        at_second_box k told' h = behind_first_box (stops_both box' _ (box_told told') h)
 
-        behind_boxes : {r : ℕ} → k ≡ 0 → r ≡ first_of (widths ∷ (other ++ other')) → r ≡ whole
-        behind_boxes y h = behind_first_box z (goes_both box' _ (box_numbered (following first second S) T) (sym y ∙ box_told) h)
+        -- and the second's
+        module _ (told' : 0 ≡ first_of (box_checks later T)) where
+          behind_boxes : {r : ℕ} → r ≡ first_of (widths ∷ (other ++ other')) → r ≡ whole
+          behind_boxes h = behind_first_box (goes_both box' _ (box_numbered (following first second S) T) (box_told told') h)
 
-        pub at_18 : k ≡ 0 → (first.m ≡ second.n → ⊥) → 18 ≡ whole
-        at_18 y h = behind_boxes y (stops 18 _ (ap not (ne_eqb _ _ h)))
+          pub at_18 : (first.m ≡ second.n → ⊥) → 18 ≡ whole
+          at_18 h = behind_boxes (stops 18 _ (ap not (ne_eqb _ _ h)))
 
-        module _ (y : k ≡ 0) (w : first.m ≡ second.n) (p : ℕ) (told_other : p ≡ first_of other) where
-          behind_18 : {r : ℕ} → r ≡ first_of (other ++ other') → r ≡ whole
-          behind_18 h = behind_boxes y (goes 18 _ (ap not (eq-eqb _ _ w)) h)
+          -- and the widths are equal
+          module _ (w : first.m ≡ second.n) where
+            behind_18 : {r : ℕ} → r ≡ first_of (other ++ other') → r ≡ whole
+            behind_18 h = behind_boxes (goes 18 _ (ap not (eq-eqb _ _ w)) h)
 
-          pub at_first_other : (p ≡ 0 → ⊥) → p ≡ whole
-          at_first_other h = behind_18 (stops_both other other' told_other h)
+            pub at_first_other : (p : ℕ) → p ≡ first_of other → (p ≡ 0 → ⊥) → p ≡ whole
+            at_first_other p told_other h = behind_18 (stops_both other other' told_other h)
 
-          pub at_second_other : (r : ℕ) → p ≡ 0 → r ≡ first_of (other_checks later scratch' log') → r ≡ whole
-          unfolding following
-          at_second_other r x e =
-              let fits = answer_fits S scratch log (sym told ∙ z) w (sym told_other ∙ x) in
-              let unseen = ap (λ c. other_checks c scratch' log') same ∙ other_unseen (answer first S) scratch' log' fits in
-              behind_18 (goes_both other other' (other_numbered first scratch log) (sym x ∙ told_other) (e ∙ ap first_of unseen))
+            pub at_second_other : (r : ℕ) → 0 ≡ first_of other → r ≡ first_of (other_checks later scratch' log') → r ≡ whole
+            unfolding following
+            at_second_other r told_other e =
+                let fits = answer_fits S scratch log (sym told) w (sym told_other) in
+                let unseen = ap (λ c. other_checks c scratch' log') same ∙ other_unseen (answer first S) scratch' log' fits in
+                behind_18 (goes_both other other' (other_numbered first scratch log) told_other (e ∙ ap first_of unseen))

@@ -5,7 +5,7 @@ use Prim.Native.Nat.{ℕ, zero, suc}
 use Rattle.refusals.specs.Left.{left}
 use Rattle.refusals.proofs.Left.{left_refused, left_accepted}
 use Rattle.lookup.specs.declared.Case.{Case}
-use Rattle.lookup.specs.declared.Called.{Called}
+use Rattle.lookup.specs.Called.{Called}
 use Rattle.lookup.specs.Call.{answer, log_length}
 use Rattle.lookup.specs.Refusals.{logged_refusal}
 use Rattle.calls.specs.Reply.{called, logged_reply, logged_scratch, logged_log}
@@ -49,9 +49,6 @@ module _ (first : Case) (second : Second) (S T scratch scratch' log log' : List 
   pub second_log_kept : (j ≡ 0 → ⊥) → log' ≡ chain_second_log first second (lent S T scratch scratch' log log')
   unfolding chain_second_log
   second_log_kept h = left_refused j _ _ _ told h
-
-  pub chain_goes : j ≡ 0 → chain_refusal first second (lent S T scratch scratch' log log') ≡ 0
-  chain_goes z = sym told ∙ z
 
 -- accepted: both runs are of accepted calls
 module _ (first : Case) (second : Second) (S T scratch scratch' log log' : List ℕ)

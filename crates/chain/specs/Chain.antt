@@ -8,7 +8,7 @@ use Rattle.lookup.specs.declared.Case.{Case}
 use Rattle.lookup.specs.Call.{answer, scratch_after, log_of, log_length}
 use Rattle.lookup.specs.Refusals.{box_checks, other_checks}
 use Rattle.chain.specs.declared.Second.{Second}
-use Rattle.chain.specs.declared.Chained.{Chained}
+use Rattle.chain.specs.Chained.{Chained}
 use Rattle.chain.specs.Lent.{Lent}
 
 -- the second call's case, where the first has answered with this share: the share is its x0, and the first's s1 and s2 are its r1 and r2

@@ -4,7 +4,7 @@ use Rattle.bits.specs.Xor.{◌⊕◌}
 use Rattle.refusals.specs.Checks.{first_of}
 use Rattle.table.specs.Balanced.{at}
 use Rattle.lookup.specs.declared.Case.{Case}
-use Rattle.lookup.specs.declared.Called.{Called}
+use Rattle.lookup.specs.Called.{Called}
 use Rattle.lookup.specs.NarrowEntry.{narrow_log, SaysTheSame}
 use Rattle.lookup.specs.Call.{log_length}
 use Rattle.lookup.specs.Refusals.{box_checks, logged_refusal}

@@ -5,11 +5,15 @@
 ghost use Rattle.std.specs.Prelude.{◌≡◌};
 ghost use Rattle.lookup.specs.Refusals.{logged_refusal};
 ghost use Rattle.calls.specs.Reply.{logged_reply, logged_scratch, logged_log};
+ghost use Rattle.refusals.specs.Numbers.{refusal_of};
+ghost use Rattle.lookup.specs.Called.{handed_call};
+ghost use Rattle.chain.specs.Chained.{handed_chain};
 ghost use Rattle.chain.specs.Lent.{lent};
 ghost use Rattle.chain.specs.Chain.{second_case as chain_second_case, chain_refusal, chain_reply};
 ghost use Rattle.chain.specs.Chain.{chain_first_scratch, chain_second_scratch, chain_first_log, chain_second_log};
 
-use lookup::{Called, Case};
+use lookup::{Answered, Case};
+use refusals::Refusal;
 
 // What the second call has of its own: its method and widths, its output masks, r3 and b.
 #[derive(Clone, Copy)]
@@ -23,10 +27,9 @@ pub struct Second {
     pub b: u32,
 }
 
-// What a chained call hands back: its refusal, the second call's answer share, and the counts of both logs' entries.
-#[derive(Clone, Copy)]
-pub struct Chained {
-    pub refusal: u32,
+// What an accepted chain hands back: the second call's answer share, and the counts of both logs' entries.
+#[derive(Clone, Copy, Debug, PartialEq, Eq)]
+pub struct ChainAnswered {
     pub share: u32,
     pub first_count: u32,
     pub second_count: u32,
@@ -43,8 +46,8 @@ pub fn chained_call(
     second_scratch: &mut [u8],
     first_log: &mut [u32],
     second_log: &mut [u32],
-) -> Chained
-    ensures value { result ≡ chain_reply first second (lent first_table.now second_table.now first_scratch.old
+) -> Result<ChainAnswered, Refusal>
+    ensures value { handed_chain result ≡ chain_reply first second (lent first_table.now second_table.now first_scratch.old
         second_scratch.old first_log.old second_log.old) }
     ensures first_scratch_after { first_scratch.new ≡ chain_first_scratch first second (lent first_table.now second_table.now
         first_scratch.old second_scratch.old first_log.old second_log.old) }
@@ -55,7 +58,7 @@ pub fn chained_call(
     ensures second_log_after { second_log.new ≡ chain_second_log first second (lent first_table.now second_table.now
         first_scratch.old second_scratch.old first_log.old second_log.old) }
 {
-    let refusal = refused(
+    refused(
         first,
         second,
         first_table,
@@ -64,16 +67,8 @@ pub fn chained_call(
         second_scratch,
         first_log,
         second_log,
-    );
-    if refusal != 0 {
-        return Chained {
-            refusal,
-            share: 0,
-            first_count: 0,
-            second_count: 0,
-        };
-    }
-    run_both(
+    )?;
+    Ok(run_both(
         first,
         second,
         first_table,
@@ -82,7 +77,7 @@ pub fn chained_call(
         second_scratch,
         first_log,
         second_log,
-    )
+    ))
 }
 
 // Both runs of an accepted chain. The checks have been made, so it has a `requires`.
@@ -95,10 +90,10 @@ fn run_both(
     second_scratch: &mut [u8],
     first_log: &mut [u32],
     second_log: &mut [u32],
-) -> Chained
+) -> ChainAnswered
     requires { chain_refusal first second (lent first_table.now second_table.now first_scratch.old second_scratch.old
         first_log.old second_log.old) ≡ 0 }
-    ensures value { result ≡ chain_reply first second (lent first_table.now second_table.now first_scratch.old
+    ensures value { handed_chain (Ok result) ≡ chain_reply first second (lent first_table.now second_table.now first_scratch.old
         second_scratch.old first_log.old second_log.old) }
     ensures first_scratch_after { first_scratch.new ≡ chain_first_scratch first second (lent first_table.now second_table.now
         first_scratch.old second_scratch.old first_log.old second_log.old) }
@@ -118,8 +113,7 @@ fn run_both(
         second_scratch,
         second_log,
     );
-    Chained {
-        refusal: 0,
+    ChainAnswered {
         share: two.share,
         first_count: one.count,
         second_count: two.count,
@@ -134,9 +128,9 @@ fn run_second(
     table: &[u8],
     scratch: &mut [u8],
     log: &mut [u32],
-) -> Called
+) -> Answered
     requires { logged_refusal (chain_second_case first second share) table.now scratch.old log.old ≡ 0 }
-    ensures value { result ≡ logged_reply (chain_second_case first second share) table.now scratch.old log.old }
+    ensures value { handed_call (Ok result) ≡ logged_reply (chain_second_case first second share) table.now scratch.old log.old }
     ensures scratch_after { scratch.new ≡ logged_scratch (chain_second_case first second share) table.now scratch.old
         log.old }
     ensures log_after { log.new ≡ logged_log (chain_second_case first second share) table.now scratch.old
@@ -174,25 +168,16 @@ fn refused(
     second_scratch: &[u8],
     first_log: &[u32],
     second_log: &[u32],
-) -> u32
-    ensures { result ≡ chain_refusal first second (lent first_table.now second_table.now first_scratch.now
+) -> Result<(), Refusal>
+    ensures { refusal_of result ≡ chain_refusal first second (lent first_table.now second_table.now first_scratch.now
         second_scratch.now first_log.now second_log.now) }
 {
     let later = second_case(first, second, 0);
-    let of_first_box = call_checks::refused_box(first, first_table);
-    if of_first_box != 0 {
-        return of_first_box;
-    }
-    let of_second_box = call_checks::refused_box(later, second_table);
-    if of_second_box != 0 {
-        return of_second_box;
-    }
+    call_checks::refused_box(first, first_table)?;
+    call_checks::refused_box(later, second_table)?;
     if first.m != second.n {
-        return 18;
+        return Err(Refusal::UnequalWidths);
     }
-    let of_first = call_checks::refused_other(first, first_scratch, first_log);
-    if of_first != 0 {
-        return of_first;
-    }
+    call_checks::refused_other(first, first_scratch, first_log)?;
     call_checks::refused_other(later, second_scratch, second_log)
 }

@@ -6,7 +6,7 @@ use native.Mathlib.Omega.{arith}
 use mir.Syntax.{w16, w32}
 use mir.Val.{Fits}
 use Rattle.lookup.specs.declared.Case.{Case}
-use Rattle.lookup.specs.declared.Called.{Called}
+use Rattle.lookup.specs.Called.{Called}
 use Rattle.calls.specs.Reply.{plain_reply}
 use Rattle.calls.proofs.Sizes.{reply_sizes}
 use Rattle.cippazhey.specs.Export.{exported}

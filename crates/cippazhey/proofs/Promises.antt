@@ -4,12 +4,11 @@ use mathlib.Core.List.{List}
 use Prim.Native.Nat.{ℕ, ◌^◌, ◌<◌}
 use native.Mathlib.Omega.{arith}
 use lib.ListN.{length}
+use Rattle.std.specs.Prelude.{Option, Some, None}
 use Rattle.refusals.specs.Left.{left}
 use Rattle.frame.specs.Frame.{encrypted, frame_reply}
 use Rattle.frame.specs.Promises.{ciphertext, FrameRight}
 use Rattle.frame.proofs.Promises.{frame_right}
-use Rattle.screening.specs.declared.Report.{Report}
-use Rattle.screening.specs.declared.Report.TheVariants.{Start, None}
 use Rattle.screening.specs.Report.{report}
 use Rattle.screening.specs.Promises.{Says, ReportRight}
 use Rattle.screening.proofs.Promises.{report_right}
@@ -26,7 +25,7 @@ pub report_told : ReportTold
 unfolding ReportTold ReportRight Says exported_report no_fault
 report_told = (refl, λ run h. by_cases run h (report run) (report_right run).0)
   where
-    by_cases : (run : List ℕ) → length run < 2 ^ 64 → (r : Report) → Says run r
-        → (exported_report r ≡ no_fault → r ≡ None) × ((start : ℕ) → exported_report r ≡ start → start < no_fault → r ≡ Start start)
-    by_cases run h (Start k) s = (λ e. absurd (omega (arith, s.0, windows_most run)), λ start e l. ap Start e)
+    by_cases : (run : List ℕ) → length run < 2 ^ 64 → (r : Option ℕ) → Says run r
+        → (exported_report r ≡ no_fault → r ≡ None) × ((start : ℕ) → exported_report r ≡ start → start < no_fault → r ≡ Some start)
+    by_cases run h (Some k) s = (λ e. absurd (omega (arith, s.0, windows_most run)), λ start e l. ap Some e)
     by_cases run h None s = (λ e. refl, λ start e l. absurd (omega arith))

@@ -2,13 +2,12 @@
 use mathlib.Core.Path.{◌≡◌}
 use mathlib.Core.List.{List}
 use Prim.Native.Nat.{ℕ}
-use Rattle.screening.specs.declared.Report.{Report}
-use Rattle.screening.specs.declared.Report.TheVariants.{Start, None}
+use Rattle.std.specs.Prelude.{Option, Some, None}
 use Rattle.screening.specs.Report.{report}
 use Rattle.cippazhey.specs.Export.{no_fault, exported_report}
 
-module _ (told : Report) (run : List ℕ) (e : told ≡ report run) where
-  pub start_told : (start : ℕ) → told ≡ Start start → start ≡ exported_report (report run)
+module _ (told : Option ℕ) (run : List ℕ) (e : told ≡ report run) where
+  pub start_told : (start : ℕ) → told ≡ Some start → start ≡ exported_report (report run)
   unfolding exported_report
   start_told start f = rw (← e, f)
 

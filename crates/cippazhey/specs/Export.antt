@@ -1,14 +1,12 @@
 -- What the C host gets: of the plain call one 16-bit number, refusal × 256 + share, of a frame its three shares, and of a report one 64-bit
 -- number.
-use Rattle.std.specs.Prelude.{List, [], ◌∷◌, ℕ, ◌+◌, ◌-◌, ◌*◌, ◌^◌}
+use Rattle.std.specs.Prelude.{Option, Some, None, List, [], ◌∷◌, ℕ, ◌+◌, ◌-◌, ◌*◌, ◌^◌}
 use Rattle.refusals.specs.Left.{left}
-use Rattle.lookup.specs.declared.Called.{Called}
+use Rattle.lookup.specs.Called.{Called}
 use Rattle.aes.specs.State.{State}
 use Rattle.frame_lookups.specs.Shares.{share}
 use Rattle.frame_rounds.specs.Rounds.{frame_shares}
 use Rattle.frame.specs.Frame.{frame_refusal, flat}
-use Rattle.screening.specs.declared.Report.{Report}
-use Rattle.screening.specs.declared.Report.TheVariants.{Start, None}
 
 unfoldable pub exported : Called → ℕ
 exported r = r.refusal * 256 + r.share
@@ -23,6 +21,6 @@ unfoldable pub no_fault : ℕ
 no_fault = 2 ^ 64 - 1
 
 -- the first faulty window's start, or that number
-unfoldable pub exported_report : Report → ℕ
-exported_report (Start start) = start
+unfoldable pub exported_report : Option ℕ → ℕ
+exported_report (Some start) = start
 exported_report None = no_fault

@@ -1,5 +1,5 @@
 -- What is promised of what C gets of a frame and of a report. Each is a type; its proof stands in proofs/Promises.antt.
-use Rattle.std.specs.Prelude.{◌≡◌, List, [], ◌∷◌, ℕ, ◌+◌, ◌^◌, ◌<◌, length}
+use Rattle.std.specs.Prelude.{◌≡◌, Some, None, List, [], ◌∷◌, ℕ, ◌+◌, ◌^◌, ◌<◌, length}
 use Rattle.bits.specs.Xor.{◌⊕◌}
 use Rattle.table.specs.Balanced.{at}
 use Rattle.table.specs.Tabulate.{tabulate}
@@ -7,7 +7,6 @@ use Rattle.aes.specs.State.{State, Bytes}
 use Rattle.aes.specs.Cipher.{cipher}
 use Rattle.frame_lookups.specs.Shares.{joined}
 use Rattle.frame.specs.Frame.{frame_refusal, flat}
-use Rattle.screening.specs.declared.Report.TheVariants.{Start, None}
 use Rattle.screening.specs.Report.{report}
 use Rattle.cippazhey.specs.Export.{exported_share, no_fault, exported_report}
 
@@ -27,4 +26,4 @@ ReportTold =
     (no_fault + 1 ≡ 2 ^ 64)
     × ((run : List ℕ) → length run < 2 ^ 64
     → (exported_report (report run) ≡ no_fault → report run ≡ None)
-    × ((start : ℕ) → exported_report (report run) ≡ start → start < no_fault → report run ≡ Start start))
+    × ((start : ℕ) → exported_report (report run) ≡ start → start < no_fault → report run ≡ Some start))

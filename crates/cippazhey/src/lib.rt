@@ -9,8 +9,6 @@ ghost use Rattle.frame.specs.Frame.{frame_refusal, frame_scratch};
 ghost use Rattle.screening.specs.Report.{report};
 ghost use Rattle.cippazhey.specs.Export.{exported, exported_share, exported_report};
 
-use screening::Report;
-
 #[unsafe(no_mangle)]
 pub extern "C" fn cippazhey_plain_call(
     method: u32,
@@ -106,7 +104,7 @@ pub extern "C" fn cippazhey_screen(run: &[u8]) -> u64
     ensures { result ≡ exported_report (report run.now) }
 {
     match screening::screen(run) {
-        Report::Start(start) => start as u64,
-        Report::None => 0xffff_ffff_ffff_ffff,
+        Some(start) => start as u64,
+        None => 0xffff_ffff_ffff_ffff,
     }
 }

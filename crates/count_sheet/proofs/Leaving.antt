@@ -56,9 +56,6 @@ module _ (p : ProbePair) (table scratch log sheet : List ℕ) (j : ℕ) (told : 
     taken : Accepted p table scratch log sheet
     taken = accepted p table scratch log sheet (sym told ∙ z)
 
-    pub zero_told : 0 ≡ count_refusal p table scratch log sheet
-    zero_told = sym z ∙ told
-
     pub taken_countable : Countable p table
     taken_countable = taken.countable
 

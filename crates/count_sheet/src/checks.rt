@@ -1,74 +1,73 @@
 // The refusals of the count sheet, in their order.
+ghost use Rattle.refusals.specs.Numbers.{refusal_of};
 ghost use Rattle.std.specs.Prelude.{◌≡◌, ◌≤◌};
 ghost use Rattle.refusals.specs.Checks.{first_of};
 ghost use Rattle.count_sheet.specs.Refusals.{pair_checks, buffer_checks, sheet_checks, count_refusal};
 
 use crate::ProbePair;
+use refusals::Refusal;
 
-pub fn refused(pair: ProbePair, table: &[u8], scratch: &[u8], log: &[u32], sheet: &[u32]) -> u32
-    ensures { result ≡ count_refusal pair table.now scratch.now log.now sheet.now }
+pub fn refused(
+    pair: ProbePair,
+    table: &[u8],
+    scratch: &[u8],
+    log: &[u32],
+    sheet: &[u32],
+) -> Result<(), Refusal>
+    ensures { refusal_of result ≡ count_refusal pair table.now scratch.now log.now sheet.now }
 {
-    let refusal = refused_pair(pair, table);
-    if refusal != 0 {
-        return refusal;
-    }
-    let refusal = refused_buffers(pair, scratch, log);
-    if refusal != 0 {
-        return refusal;
-    }
+    refused_pair(pair, table)?;
+    refused_buffers(pair, scratch, log)?;
     refused_sheet(pair, sheet)
 }
 
 // 2 to 7, and 10
-fn refused_pair(pair: ProbePair, table: &[u8]) -> u32
-    ensures { result ≡ first_of (pair_checks pair table.now) }
+fn refused_pair(pair: ProbePair, table: &[u8]) -> Result<(), Refusal>
+    ensures { refusal_of result ≡ first_of (pair_checks pair table.now) }
 {
     if !methods::known(pair.method) {
-        return 2;
+        return Err(Refusal::UnknownMethod);
     }
-    let refusal = table::table_refusal(pair.n, pair.m, table);
-    if refusal != 0 {
-        return refusal;
-    }
+    table::table_refusal(pair.n, pair.m, table)?;
     if bits::power(pair.n) <= pair.secret {
-        return 10;
+        return Err(Refusal::Input);
     }
-    0
+    Ok(())
 }
 
 // 13 and 14. The width has been checked, so it has a `requires`.
-fn refused_buffers(pair: ProbePair, scratch: &[u8], log: &[u32]) -> u32
+fn refused_buffers(pair: ProbePair, scratch: &[u8], log: &[u32]) -> Result<(), Refusal>
     requires { pair.n ≤ 8 }
-    ensures { result ≡ first_of (buffer_checks pair scratch.now log.now) }
+    ensures { refusal_of result ≡ first_of (buffer_checks pair scratch.now log.now) }
 {
     if scratch.len() < methods::scratch_length(pair.method, pair.n) as usize {
-        return 13;
+        return Err(Refusal::ShortScratch);
     }
     if log.len() < methods::log_length(pair.method, pair.n) {
-        return 14;
+        return Err(Refusal::ShortLog);
     }
-    0
+    Ok(())
 }
 
 // 15 to 17
-fn refused_sheet(pair: ProbePair, sheet: &[u32]) -> u32
-    ensures { result ≡ first_of (sheet_checks pair sheet.now) }
+fn refused_sheet(pair: ProbePair, sheet: &[u32]) -> Result<(), Refusal>
+    ensures { refusal_of result ≡ first_of (sheet_checks pair sheet.now) }
 {
     if 3 < pair.n {
-        return 15;
+        return Err(Refusal::LargeWidth);
     }
     if 3 < pair.m {
-        return 15;
+        return Err(Refusal::LargeWidth);
     }
     let entries = methods::log_length(pair.method, pair.n);
     if entries <= pair.first as usize {
-        return 16;
+        return Err(Refusal::Position);
     }
     if entries <= pair.second as usize {
-        return 16;
+        return Err(Refusal::Position);
     }
     if sheet.len() < crate::sheet_length(pair.n, pair.m) {
-        return 17;
+        return Err(Refusal::ShortSheet);
     }
-    0
+    Ok(())
 }

@@ -29,10 +29,8 @@ pub fn count_all(
     ensures { sheet.new ≡ counts table.now pair }
 {
     let choices = bits::power(total(methods::mask_widths(pair.method, pair.n, pair.m)));
-    let mut number = 0;
-    while number < choices {
+    for number in 0..choices {
         count(pair, number, table, scratch, log, sheet);
-        number += 1;
     }
 }
 
@@ -55,7 +53,7 @@ fn count(
 {
     let case = numbered_case(pair, number);
     buffers::clear(scratch);
-    calls::logged(case, table, scratch, log);
+    let _ = calls::logged(case, table, scratch, log);
     let place = place_of(pair, log);
     sheet[place] += 1;
 }
@@ -115,12 +113,10 @@ fn masks(widths: [u32; 6], number: u32) -> [u32; 6]
 {
     let mut masks = [0u32; 6];
     let mut left = number;
-    let mut i = 0;
-    while i < 6 {
+    for i in 0..6 {
         let limit = bits::power(widths[i]);
         masks[i] = left % limit;
         left = left / limit;
-        i += 1;
     }
     masks
 }
@@ -131,10 +127,8 @@ fn total(widths: [u32; 6]) -> u32
     ensures { result ≡ choice_total widths }
 {
     let mut sum = 0;
-    let mut i = 0;
-    while i < 6 {
-        sum += widths[i];
-        i += 1;
+    for width in widths {
+        sum += width;
     }
     sum
 }

@@ -1,6 +1,7 @@
 // The count sheet: how often two positions of a log show each pair of values, over every choice of masks.
 #![tactic(auto)]
 
+ghost use Rattle.refusals.specs.Numbers.{refusal_of};
 ghost use Rattle.std.specs.Prelude.{◌≡◌, length, replicate, max, ◌*◌, ◌^◌, ◌≤◌};
 ghost use Rattle.lookup.specs.Call.{log_length as call_log_length, scratch_length as call_scratch_length};
 ghost use Rattle.count_sheet.specs.Refusals.{value_width, count_refusal};
@@ -9,6 +10,8 @@ ghost use Rattle.count_sheet.specs.Runs.{Countable};
 
 mod checks;
 mod choices;
+
+use refusals::Refusal;
 
 // What is probed: a method's log for a secret, at two positions.
 #[derive(Clone, Copy)]
@@ -22,7 +25,7 @@ pub struct ProbePair {
 }
 
 // Runs every choice of masks, and counts the values at both positions: with k the larger of n and m, the count for u and v goes to
-// u * 2^k + v of the sheet. The runs' scratch and log are zero afterwards. Returns the refusal. It takes the secret itself, so it is for the
+// u * 2^k + v of the sheet. The runs' scratch and log are zero afterwards. It takes the secret itself, so it is for the
 // bench alone.
 pub fn count_sheet(
     pair: ProbePair,
@@ -30,8 +33,8 @@ pub fn count_sheet(
     scratch: &mut [u8],
     log: &mut [u32],
     sheet: &mut [u32],
-) -> u32
-    ensures value { result ≡ count_refusal pair table.now scratch.old log.old sheet.old }
+) -> Result<(), Refusal>
+    ensures value { refusal_of result ≡ count_refusal pair table.now scratch.old log.old sheet.old }
     ensures sheet_after { sheet.new ≡ sheet_left pair table.now scratch.old log.old
         sheet.old }
     ensures scratch_after { scratch.new ≡ scratch_left pair table.now scratch.old log.old
@@ -39,10 +42,7 @@ pub fn count_sheet(
     ensures log_after { log.new ≡ log_left pair table.now scratch.old log.old
         sheet.old }
 {
-    let refusal = checks::refused(pair, table, scratch, log, sheet);
-    if refusal != 0 {
-        return refusal;
-    }
+    checks::refused(pair, table, scratch, log, sheet)?;
     let bytes = methods::scratch_length(pair.method, pair.n) as usize;
     let entries = methods::log_length(pair.method, pair.n);
     let counts = sheet_length(pair.n, pair.m);
@@ -53,7 +53,7 @@ pub fn count_sheet(
         &mut log[..entries],
         &mut sheet[..counts],
     );
-    0
+    Ok(())
 }
 
 // Scratch, log and sheet are as long as is needed, and no longer.
@@ -84,5 +84,5 @@ fn sheet_length(n: u32, m: u32) -> usize
 pub fn larger(n: u32, m: u32) -> u32
     ensures { result ≡ max n m }
 {
-    if n < m { m } else { n }
+    n.max(m)
 }

@@ -6,8 +6,6 @@ ghost use Rattle.frame_lookups.specs.Scratch.{cleared};
 ghost use Rattle.frame_rounds.specs.Rounds.{frame_shares};
 ghost use Rattle.frame.specs.Frame.{frame_refusal, flat as frame_flat, frame_reply, frame_scratch};
 
-use screening::Report;
-
 // What a frame hands back: its refusal, and the three shares' bytes, column by column.
 #[derive(Clone, Copy)]
 pub struct Encrypted {
@@ -54,7 +52,7 @@ fn refused(random: &[u8], scratch: &[u8]) -> u32
     if random.len() != 632 {
         return 26;
     }
-    if let Report::Start(_) = screening::screen(random) {
+    if screening::screen(random).is_some() {
         return 27;
     }
     if scratch.len() < 256 {

@@ -83,7 +83,7 @@ pub constant_small : (size m k : ℕ) → size ≡ 2 ^ m → k < size → k < 2 
 constant_small size m k e h = rw e at h
 
 -- an accepted layer has few rows
-pub few_rows : (j n m : ℕ) (rows : List ℕ) (k a b c : ℕ) → j ≡ layer_refusal n m rows k a b c → j ≡ 0 → length rows ≤ 8
-few_rows j n m rows k a b c e z =
-    let known = accepted n m rows k a b c (sym e ∙ z) in
+pub few_rows : (n m : ℕ) (rows : List ℕ) (k a b c : ℕ) → 0 ≡ layer_refusal n m rows k a b c → length rows ≤ 8
+few_rows n m rows k a b c e =
+    let known = accepted n m rows k a b c (sym e) in
     omega (arith, inside 1 8 m known.width, known.counted)

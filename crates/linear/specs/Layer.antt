@@ -5,8 +5,7 @@ use Rattle.std.specs.Int.Count.{ones}
 use Rattle.bits.specs.Xor.{◌⊕◌}
 use Rattle.refusals.specs.Checks.{◌when◌, first_of}
 use Rattle.refusals.specs.Tests.{outside, any_from}
-use Rattle.shares.specs.declared.Shares.{Shares}
-use Rattle.shares.specs.Shares.{reply}
+use Rattle.shares.specs.Shares.{SharesReply, reply}
 
 -- 1 when row and input have an odd number of ones in common
 unfoldable pub odd_common : (row x : ℕ) → ℕ
@@ -28,5 +27,5 @@ layer_refusal n m rows constant a b c =
     ∷ [])
 
 -- the map acts on each share; the constant is added to the first share only
-unfoldable pub layer : (n m : ℕ) → (rows : List ℕ) → (constant a b c : ℕ) → Shares
+unfoldable pub layer : (n m : ℕ) → (rows : List ℕ) → (constant a b c : ℕ) → SharesReply
 layer n m rows constant a b c = reply (layer_refusal n m rows constant a b c) (mapped rows a ⊕ constant) (mapped rows b) (mapped rows c)

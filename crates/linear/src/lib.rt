@@ -2,8 +2,11 @@
 #![tactic(auto)]
 
 ghost use Rattle.std.specs.Prelude.{◌≡◌, ◌≤◌, length};
+ghost use Rattle.refusals.specs.Numbers.{refusal_of};
+ghost use Rattle.shares.specs.Shares.{handed_shares};
 ghost use Rattle.linear.specs.Layer.{layer, layer_refusal as layer_layer_refusal, mapped as layer_mapped};
 
+use refusals::Refusal;
 use shares::Shares;
 
 // Row i gives output bit i: whether the row and the input have an odd number of ones in common.
@@ -15,10 +18,10 @@ pub fn linear_layer(
     share1: u32,
     share2: u32,
     share3: u32,
-) -> Shares
-    ensures { result ≡ layer input_width output_width rows.now constant share1 share2 share3 }
+) -> Result<Shares, Refusal>
+    ensures { handed_shares result ≡ layer input_width output_width rows.now constant share1 share2 share3 }
 {
-    let refusal = layer_refusal(
+    layer_refusal(
         input_width,
         output_width,
         rows,
@@ -26,14 +29,12 @@ pub fn linear_layer(
         share1,
         share2,
         share3,
-    );
-    if refusal != 0 {
-        return shares::reply(refusal, 0, 0, 0);
-    }
-    let first = mapped(rows, share1);
-    let second = mapped(rows, share2);
-    let third = mapped(rows, share3);
-    shares::reply(refusal, first ^ constant, second, third)
+    )?;
+    Ok(Shares {
+        first: mapped(rows, share1) ^ constant,
+        second: mapped(rows, share2),
+        third: mapped(rows, share3),
+    })
 }
 
 fn layer_refusal(
@@ -44,28 +45,28 @@ fn layer_refusal(
     share1: u32,
     share2: u32,
     share3: u32,
-) -> u32
-    ensures { result ≡ layer_layer_refusal input_width output_width rows.now constant share1 share2 share3 }
+) -> Result<(), Refusal>
+    ensures { refusal_of result ≡ layer_layer_refusal input_width output_width rows.now constant share1 share2 share3 }
 {
     if refusals::outside(1, 8, input_width) {
-        return 3;
+        return Err(Refusal::InputWidth);
     }
     if refusals::outside(1, input_width, output_width) {
-        return 4;
+        return Err(Refusal::OutputWidth);
     }
     if rows.len() != output_width as usize {
-        return 8;
+        return Err(Refusal::RowCount);
     }
-    if refusals::any_byte_from(bits::power(input_width), rows) {
-        return 9;
+    if refusals::any_number_from(bits::power(input_width), rows) {
+        return Err(Refusal::RowOrConstant);
     }
     if bits::power(output_width) <= constant {
-        return 9;
+        return Err(Refusal::RowOrConstant);
     }
     if refusals::any_number_from(bits::power(input_width), &[share1, share2, share3]) {
-        return 10;
+        return Err(Refusal::Input);
     }
-    0
+    Ok(())
 }
 
 // The matrix applied to one share. The layer has checked that there are at most 8 rows, so it has a `requires`.
@@ -74,11 +75,9 @@ fn mapped(rows: &[u8], input: u32) -> u32
     ensures { result ≡ layer_mapped rows.now input }
 {
     let mut output = 0;
-    let mut i = 0;
-    while i < rows.len() {
-        let odd = u32::count_ones(rows[i] as u32 & input) % 2;
+    for (i, row) in rows.iter().enumerate() {
+        let odd = u32::count_ones(*row as u32 & input) % 2;
         output |= odd << i;
-        i += 1;
     }
     output
 }

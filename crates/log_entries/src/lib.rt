@@ -12,18 +12,9 @@ pub fn put(log: &mut [u32], position: usize, kinds: &[u8], values: &[u8])
     requires kinds_in_bounds { position + length kinds.now ≤ length log.old }
     ensures { log.new ≡ written log.old position (entries kinds.now values.now) }
 {
-    let mut i = 0;
-    while i < kinds.len() {
-        log[position + i] = entry(kinds[i], wide(values[i]));
-        i += 1;
+    for i in 0..kinds.len() {
+        log[position + i] = entry(kinds[i], values[i] as u16);
     }
-}
-
-// The methods' values are bytes; an entry has room for sixteen bits.
-fn wide(value: u8) -> u16
-    ensures { result ≡ value }
-{
-    value as u16
 }
 
 // An entry of any value of sixteen bits.

@@ -13,3 +13,4 @@ pub mod Call
 pub mod Refusals
 pub mod Bounded
 pub mod Promises
+pub mod Called

@@ -20,10 +20,9 @@ pub struct Case {
     pub b: u32,
 }
 
-// What a call hands back: its refusal, the answer share, and the count of log entries.
-#[derive(Clone, Copy)]
-pub struct Called {
-    pub refusal: u32,
+// What an accepted call hands back: the answer share, and the count of log entries.
+#[derive(Clone, Copy, Debug, PartialEq, Eq)]
+pub struct Answered {
     pub share: u32,
     pub count: u32,
 }

@@ -37,11 +37,9 @@ fn fill(case: Case, table: &[u8], scratch: &mut [u8])
     let turns = bits::power(case.n) as u16;
     let first = r_prime(case);
     let zero = lookup::unknown_zero(case.r3);
-    let mut a: u16 = 0;
-    while a < turns {
+    for a in 0..turns {
         let to = a as usize ^ first;
         lookup::put_masked_entry(case, table, a, scratch, to, zero);
-        a += 1;
     }
 }
 

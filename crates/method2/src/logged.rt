@@ -61,13 +61,11 @@ fn fill(case: Case, table: &[u8], scratch: &mut [u8], log: &mut [u32])
         (pass_lines (row_entry case table.now) (Q case) pass_2) }
 {
     let turns = bits::power(case.n) as u16;
-    let mut a: u16 = 0;
-    while a < turns {
+    for a in 0..turns {
         let values = turn(case, table, a);
         let to = values[1] as usize;
         scratch[to] = values[5];
         parts::put_turn(log, a, values);
-        a += 1;
     }
 }
 

@@ -40,10 +40,8 @@ fn prepare(case: Case, scratch: &mut [u8])
     let r3 = case.r3 as usize;
     let b = case.b as u8;
     let other = 1 - b;
-    let mut i: u16 = 0;
-    while i < size {
+    for i in 0..size {
         scratch[i as usize] = other;
-        i += 1;
     }
     scratch[r3] = b;
 }
@@ -59,12 +57,10 @@ fn select(case: Case, table: &[u8], scratch: &[u8], registers: &mut [u8; 2])
 {
     let turns = bits::power(case.n) as u16;
     let zero = lookup::unknown_zero(case.r3);
-    let mut a: u16 = 0;
-    while a < turns {
+    for a in 0..turns {
         let at = place(case, a);
         let cmp = scratch[at] as usize;
         lookup::put_masked_entry(case, table, a, registers, cmp, zero);
-        a += 1;
     }
 }
 

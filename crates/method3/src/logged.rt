@@ -63,13 +63,11 @@ fn select(case: Case, table: &[u8], scratch: &[u8], registers: &mut [u8; 2], log
         (pass_lines (row_entry case table.now) (Q case) pass_3) }
 {
     let turns = bits::power(case.n) as u16;
-    let mut a: u16 = 0;
-    while a < turns {
+    for a in 0..turns {
         let values = turn(case, table, scratch, a);
         let cmp = values[4] as usize;
         registers[cmp] = values[8];
         parts::put_turn(log, a, values);
-        a += 1;
     }
 }
 

@@ -95,9 +95,6 @@ module _ (c : Case) (before : List ℕ) where
     index : (r : ℕ) → a < size → r < 2 ^ c.n → a ⊕ r < 2 ^ c.n
     index r h l = below c.n (rw e at h) l
 
-    pub second_half_long : 2 * 2 ^ c.n ≤ length before → Second now a → 2 * 2 ^ c.n ≤ length now
-    second_half_long room k = rw k.long room
-
     pub second_index : (r : ℕ) → a < size → r < 2 ^ c.n → 2 * 2 ^ c.n ≤ length before → Second now a → a ⊕ r < length now
     second_index r h l room k = omega (arith, index r h l, k.long)
 

@@ -33,14 +33,8 @@ module _ (c : Case) where
   -- each pass in a log that has room for the whole
   module _ (table before now : List ℕ) (size a : ℕ) (e : size ≡ 2 ^ c.n) (h : a < size)
       (room : layout_size (2 ^ c.n) method_5.layout ≤ length before) where
-    pub first_room : Logging (row_entry c table) first_pass_5 5 before now a → 5 + 4 * (a + 1) ≤ length now
-    first_room l = rows_room c table first_pass_5 5 before now size a 0 e h (omega arith) l
-
     abbrev behind : ℕ
     behind = 5 + 4 * 2 ^ c.n
-
-    pub second_room : Logging (row_entry c table) half_pass_5 behind before now a → 5 + 4 * size + 4 * (a + 1) ≤ length now
-    second_room l = rw e (rows_room c table half_pass_5 behind before now size a 0 e h (omega arith) l)
 
     pub second_logged : (next shown : List ℕ) → shown ≡ values c table a half_pass_5
         → next ≡ written now (5 + 4 * size + 4 * a) (entries (kinds half_pass_5) shown)
@@ -56,12 +50,6 @@ module _ (c : Case) where
       → Logging (row_entry c table) first_pass_5 5 before next (a + 1)
   first_logged table before now next shown size a w v l room h e =
       rows_turns c table first_pass_5 5 before now next shown size a 0 e h (omega arith) v w l
-
-  -- where `put_end` has written what `answer` told
-  pub end_written : (log next scratch : List ℕ) (size answer : ℕ) → size ≡ 2 ^ c.n → answer ≡ get_or scratch (2 ^ c.n + c.x0) 0
-      → next ≡ written log (5 + 8 * size) (entries (kinds end_5) (c.x0 ∷ answer ∷ []))
-      → next ≡ written log (5 + 8 * 2 ^ c.n) (entries (kinds end_5) (c.x0 ∷ get_or scratch (2 ^ c.n + c.x0) 0 ∷ []))
-  end_written log next scratch size answer e told w = w ∙ rw (e, told)
 
   -- both passes: what the second shows of the scratch is what it shows of the first half
   module _ (table scratch₀ half : List ℕ) (k : Bounded c) (f : half ≡ written scratch₀ 0 (first_half c table)) where

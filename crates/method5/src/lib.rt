@@ -46,10 +46,8 @@ fn fill_first(case: Case, table: &[u8], scratch: &mut [u8])
     ensures { scratch.new ≡ written scratch.old 0 (first_half case table.now) }
 {
     let turns = bits::power(case.n) as u16;
-    let mut a: u16 = 0;
-    while a < turns {
+    for a in 0..turns {
         scratch[a as usize] = copied(table, a, case.r1, case.s1);
-        a += 1;
     }
 }
 
@@ -60,11 +58,9 @@ fn fill_second(case: Case, scratch: &mut [u8])
     ensures { scratch.new ≡ written scratch.old (Q case) (second_half case scratch.old) }
 {
     let turns = bits::power(case.n) as u16;
-    let mut a: u16 = 0;
-    while a < turns {
+    for a in 0..turns {
         let entry = copied(scratch, a, case.r2, case.s2);
         scratch[turns as usize + a as usize] = entry;
-        a += 1;
     }
 }
 

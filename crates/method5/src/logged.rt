@@ -60,12 +60,10 @@ fn fill_first(case: Case, table: &[u8], scratch: &mut [u8], log: &mut [u32])
         (pass_lines (row_entry case table.now) (Q case) first_pass_5) }
 {
     let turns = bits::power(case.n) as u16;
-    let mut a: u16 = 0;
-    while a < turns {
+    for a in 0..turns {
         let values = first_turn(case, table, a);
         scratch[a as usize] = values[3];
         parts::put_first_turn(log, a, values);
-        a += 1;
     }
 }
 
@@ -78,12 +76,10 @@ fn fill_second(case: Case, scratch: &mut [u8], log: &mut [u32])
         (pass_lines (row_entry case scratch.old) (Q case) half_pass_5) }
 {
     let turns = bits::power(case.n) as u16;
-    let mut a: u16 = 0;
-    while a < turns {
+    for a in 0..turns {
         let values = second_turn(case, scratch, a);
         scratch[turns as usize + a as usize] = values[3];
         parts::put_second_turn(log, turns, a, values);
-        a += 1;
     }
 }
 

@@ -1,20 +1,12 @@
 // Prints the wall-cabinet page of the case sheet on standard input, or the number of its refusal.
 #![tactic(auto)]
 
-fn write_page(rt: &(impl Print + Eprint), output: &[u8; 40960], length: usize) {
-    console::write_front(rt, output, length);
-}
-
 fn main(rt: HostRuntime) {
-    let mut stdin = rt.stdin();
-    console::say_at_terminal(
+    console::answer(
         &rt,
-        &stdin,
+        &mut rt.stdin(),
         "waiting for a case sheet (docs/REFERENCE.md has its form); Ctrl-D ends it\n",
+        [0; 40960],
+        page_print::print,
     );
-    let mut input = [0u8; console::MOST_READ];
-    let got = console::read_full(&mut stdin, &mut input);
-    let mut output = [0u8; 40960];
-    let length = page_print::print(&input[..got], &mut output);
-    write_page(&rt, &output, length);
 }

@@ -9,7 +9,7 @@ use lib.ListN.{length, take}
 use Rattle.refusals.specs.Tests.{outside, any_from}
 use Rattle.refusals.proofs.Tests.{inside, one_below, none_below}
 use Rattle.table.specs.Balanced.{count_of}
-use Rattle.lookup.specs.declared.Called.{Called}
+use Rattle.lookup.specs.Called.{Called}
 use Rattle.lookup.specs.Entry.{kind_of, kind_limit}
 use Rattle.lookup.specs.Promises.{KindsKnown}
 use Rattle.lookup.proofs.Each.{Each, none as no_element, more}

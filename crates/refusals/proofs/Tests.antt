@@ -1,14 +1,14 @@
 -- The laws of the tests.
 use mathlib.Core.Path.{◌≡◌, refl, sym, ap, ◌∙◌}
 use mathlib.Core.Bool.{Bool, true, false, ◌||◌, true≢false, or-true, or_assoc}
-use mathlib.Core.List.{List, [], ◌∷◌, ◌++◌}
-use Prim.Native.Nat.{ℕ, zero, suc, ◌+◌, ◌^◌, ◌≤◌, ◌<◌}
-use native.Mathlib.Numerals.{add-one}
+use mathlib.Core.List.{List, [], ◌∷◌, ◌++◌, map}
+use Prim.Native.Nat.{ℕ, zero, suc, ◌^◌, ◌≤◌, ◌<◌}
 use native.Mathlib.Omega.{arith}
 use borrow.Author.Tests.{leb-true, leb-false, ltb-false, le-leb, lt-leb, lt-ltb, le-ltb}
 use lib.Dec.{leb, ltb}
-use lib.ListN.{length, get_or, drop, replicate, drop_of_length-le}
-use lib.Seq.{drop-cons}
+use lib.ListN.{length, replicate}
+use Rattle.std.specs.List.{list_any}
+use Rattle.std.proofs.lemmas.List.{map-id}
 use Rattle.refusals.specs.Tests.{outside, any_from}
 
 -- neither of two tests
@@ -53,31 +53,18 @@ pub none_below : (least : ℕ) → any_from least [] ≡ false
 unfolding any_from
 none_below least = refl
 
--- a loop over the list has its rest before it, whose first number stops the search, or does not, or is not there
-rest : (least : ℕ) (xs : List ℕ) (i : ℕ) → i < length xs
-    → any_from least (drop i xs) ≡ (leb least (get_or xs i 0) || any_from least (drop (i + 1) xs))
+-- the test at each element of a list, whose numbers are looked through
+pub any_found : {A : Type 0} (least : ℕ) (value : A → ℕ) (xs : List A) → list_any (λ x. leb least (value x)) xs ≡ any_from least (map value xs)
 unfolding any_from
-rest least xs i h = rw (drop-cons xs i 0 h, add-one)
-
-pub rest_stops : (least : ℕ) (xs : List ℕ) (i : ℕ) → i < length xs → least ≤ get_or xs i 0 → any_from least xs ≡ any_from least (drop i xs)
-    → true ≡ any_from least xs
-rest_stops least xs i h l e = sym (e ∙ rest least xs i h ∙ rw (le-leb least (get_or xs i 0) l))
-
-pub rest_goes : (least : ℕ) (xs : List ℕ) (i : ℕ) → i < length xs → get_or xs i 0 < least → any_from least xs ≡ any_from least (drop i xs)
-    → any_from least xs ≡ any_from least (drop (i + 1) xs)
-rest_goes least xs i h l e = e ∙ rest least xs i h ∙ rw (lt-leb least (get_or xs i 0) l)
-
-pub rest_ends : (least : ℕ) (xs : List ℕ) (i : ℕ) → length xs ≤ i → any_from least xs ≡ any_from least (drop i xs)
-    → false ≡ any_from least xs
-unfolding any_from
-rest_ends least xs i h e = sym (e ∙ rw (drop_of_length-le xs h))
+any_found least value [] = refl
+any_found least value (x ∷ xs) = ap (λ t. leb least (value x) || t) (any_found least value xs)
 
 -- what a call told of a test, and how the test of its result came out
 pub told : {r t b : Bool} → r ≡ t → r ≡ b → t ≡ b
 told e f = sym e ∙ f
 
-pub told_from : {r b : Bool} (size n : ℕ) (xs : List ℕ) → size ≡ 2 ^ n → r ≡ any_from size xs → r ≡ b → any_from (2 ^ n) xs ≡ b
-told_from size n xs s e f = rw s at (sym e ∙ f)
+pub told_from : {r b : Bool} (size n : ℕ) (xs : List ℕ) → size ≡ 2 ^ n → r ≡ any_from size (map (λ x. x) xs) → r ≡ b → any_from (2 ^ n) xs ≡ b
+told_from size n xs s e f = rw (s, map-id xs) at (sym e ∙ f)
 
 -- a number that is the least or more, in front or behind
 pub some_here : (least x : ℕ) (xs : List ℕ) → least ≤ x → any_from least (x ∷ xs) ≡ true

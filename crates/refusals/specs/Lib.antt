@@ -2,3 +2,4 @@
 pub mod Checks
 pub mod Tests
 pub mod Left
+pub mod Numbers

@@ -11,8 +11,8 @@ use borrow.Author.Tests.{leb-true, leb-false, eqb-true, eq-eqb}
 use lib.Dec.{eqb, leb}
 use lib.ListN.{length, get_or, take, set}
 use lib.Seq.{length-take-le}
+use Rattle.std.specs.Prelude.{Some, None}
 use Rattle.table.specs.Balanced.{at, count_of}
-use Rattle.screening.specs.declared.Report.TheVariants.{Start, None}
 use Rattle.screening.specs.declared.Window.{Window}
 use Rattle.screening.specs.Report.{window, windows, faulty, report}
 use Rattle.screening.specs.Window.{empty_window, without, with_one, fed_one, after, latest, Holds}
@@ -77,7 +77,7 @@ module _ (run : List ℕ) where
             let first : i + 1 - 512 ≡ 0 = omega arith in
             rw first (faulty_first few)
 
-    pub start_reported : Start (i + 1 - 512) ≡ report run
+    pub start_reported : Some (i + 1 - 512) ≡ report run
     unfolding report
     start_reported =
         sym
@@ -135,7 +135,7 @@ module _ (run : List ℕ) where
             let here = rw (eq-eqb (get_or run i 0) (get_or run i 0) refl) at (stood (get_or run i 0) (f.bytes i)) in
             omega arith
 
-        pub fed_stops : (start limit : ℕ) → start ≡ i + 1 - 512 → 20 ≤ limit → limit < often → Start start ≡ report run
+        pub fed_stops : (start limit : ℕ) → start ≡ i + 1 - 512 → 20 ≤ limit → limit < often → Some start ≡ report run
         unfolding at
         fed_stops start limit e m l = rw e (start_reported run i (get_or run i 0) f.so_far h (f.bytes i) (rw stood_often (omega arith)))
 

@@ -9,10 +9,9 @@ use borrow.Author.Tests.{ltb-true, leb-true, leb-false}
 use lib.Dec.{ltb, leb}
 use lib.ListN.{length, take, drop, replicate, length-replicate, length-drop}
 use lib.Seq.{take_all, take_at, drop-append_seam, drop-drop, length-take-le, get_or-take, get_or-drop}
+use Rattle.std.specs.Prelude.{Option, Some, None}
 use Rattle.table.specs.Balanced.{at, count_of}
 use Rattle.table.proofs.Counts.{count_within}
-use Rattle.screening.specs.declared.Report.{Report}
-use Rattle.screening.specs.declared.Report.TheVariants.{Start, None}
 use Rattle.screening.specs.Report.{window, windows, some_below, faulty, faulty_run, first_from, report}
 use Rattle.screening.specs.Promises.{FaultRight, WindowsRight, RunRight, Says, ReportRight}
 use Rattle.screening.specs.Promises.{EmptyRight, StuckNoticed, FewPasses, WindowRight}
@@ -96,9 +95,9 @@ run_right run = (there, in_window run)
         (found.0, often.0, often.1, often.2)
 
 -- what the search over the windows finds, in the words of the promise
-says : (run : List ℕ) (r : Report) → Found 0 (windows run) (λ start. faulty (window run start)) r → Says run r
+says : (run : List ℕ) (r : Option ℕ) → Found 0 (windows run) (λ start. faulty (window run start)) r → Says run r
 unfolding Says Found
-says run (Start k) f = (omega (arith, f.1), f.2, λ j l. f.3 j (omega arith) l)
+says run (Some k) f = (omega (arith, f.1), f.2, λ j l. f.3 j (omega arith) l)
 says run None f = λ k l. f k (omega arith) (omega arith)
 
 reported : (run : List ℕ) → Says run (report run)
@@ -106,10 +105,10 @@ unfolding report
 reported run = says run _ (finds 0 (windows run) _)
 
 -- what a call that reports tells of the run
-pub told_faulty : (run : List ℕ) (start : ℕ) → Start start ≡ report run → faulty_run run ≡ true
+pub told_faulty : (run : List ℕ) (start : ℕ) → Some start ≡ report run → faulty_run run ≡ true
 unfolding faulty_run Says
 told_faulty run start e =
-    let there : Says run (Start start) = rw (← e) at (reported run) in
+    let there : Says run (Some start) = rw (← e) at (reported run) in
     some_passes (windows run) _ start there.0 there.1
 
 pub told_clean : (run : List ℕ) → None ≡ report run → faulty_run run ≡ false
@@ -122,8 +121,8 @@ pub report_right : ReportRight
 unfolding ReportRight Says report
 report_right run = (reported run, only, λ start e. told_faulty run start (sym e), λ e. told_clean run (sym e))
   where
-    only : (other : Report) → Says run other → other ≡ report run
-    only (Start k) s = sym (found_from 0 (windows run) _ k (omega arith) (omega (arith, s.0)) s.1 (λ j z l. s.2 j l))
+    only : (other : Option ℕ) → Says run other → other ≡ report run
+    only (Some k) s = sym (found_from 0 (windows run) _ k (omega arith) (omega (arith, s.0)) s.1 (λ j z l. s.2 j l))
     only None s = sym (none_from 0 (windows run) _ (λ k z l. s k (omega arith)))
 
 pub empty_right : EmptyRight

@@ -8,9 +8,8 @@ use native.Mathlib.Nat.{le_refl, le_of_suc-le-suc, not-suc-le-zero, eq-or-lt_of_
 use native.Mathlib.Omega.{arith}
 use borrow.Author.Tests.{lt-ltb, le-ltb}
 use lib.ListN.{length}
+use Rattle.std.specs.Prelude.{Option, Some, None}
 use Rattle.table.specs.Balanced.{count_of}
-use Rattle.screening.specs.declared.Report.{Report}
-use Rattle.screening.specs.declared.Report.TheVariants.{Start, None}
 use Rattle.screening.specs.Report.{windows, some_below, faulty, first_from}
 
 -- some number passes, or none does
@@ -43,7 +42,7 @@ none_from start (suc count) test h =
     rw (h start (le_refl _) (omega arith)) (none_from (suc start) count test (λ k l m. h k (omega arith) (omega arith)))
 
 pub found_from : (start count : ℕ) (test : ℕ → Bool) (k : ℕ) → start ≤ k → k < start + count → test k ≡ true
-    → ((j : ℕ) → start ≤ j → j < k → test j ≡ false) → first_from start count test ≡ Start k
+    → ((j : ℕ) → start ≤ j → j < k → test j ≡ false) → first_from start count test ≡ Some k
 unfolding first_from
 found_from start zero test k l m e h = absurd (omega arith)
 found_from start (suc count) test k l m e h =
@@ -53,16 +52,16 @@ found_from start (suc count) test k l m e h =
     ]
 
 -- what the search finds: one that passes and none before it, or none that passes
-unfoldable pub Found : (start count : ℕ) → (test : ℕ → Bool) → Report → Type 0
-Found start count test (Start k) =
+unfoldable pub Found : (start count : ℕ) → (test : ℕ → Bool) → Option ℕ → Type 0
+Found start count test (Some k) =
     (start ≤ k) × (k < start + count) × (test k ≡ true) × ((j : ℕ) → start ≤ j → j < k → test j ≡ false)
 Found start count test None = (k : ℕ) → start ≤ k → k < start + count → test k ≡ false
 
 -- one start more in front, that does not pass
-found_later : (start count : ℕ) (test : ℕ → Bool) (r : Report) → test start ≡ false → Found (suc start) count test r
+found_later : (start count : ℕ) (test : ℕ → Bool) (r : Option ℕ) → test start ≡ false → Found (suc start) count test r
     → Found start (suc count) test r
 unfolding Found
-found_later start count test (Start k) e f =
+found_later start count test (Some k) e f =
     (omega (arith, f.0), omega (arith, f.1), f.2, λ j l m. elim (eq-or-lt_of_le l) [ inl p ↦ rw (← p) e | inr q ↦ f.3 j q m ])
 found_later start count test None e f =
     λ k l m. elim (eq-or-lt_of_le l) [ inl p ↦ rw (← p) e | inr q ↦ f k q (omega arith) ]
@@ -73,7 +72,7 @@ finds start zero test = λ k l m. absurd (omega arith)
 finds start (suc count) test = finds_by_cases (test start) refl (finds (suc start) count test)
   where
     finds_by_cases : (t : Bool) → test start ≡ t → Found (suc start) count test (first_from (suc start) count test)
-        → Found start (suc count) test (cond t (Start start) (first_from (suc start) count test))
+        → Found start (suc count) test (cond t (Some start) (first_from (suc start) count test))
     finds_by_cases true e f = (le_refl _, omega arith, e, λ j l m. absurd (omega arith))
     finds_by_cases false e f = found_later start count test (first_from (suc start) count test) e f
 

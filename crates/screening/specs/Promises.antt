@@ -1,8 +1,6 @@
 -- What is promised of the screening of a run. Each is a type; its proof stands in proofs/Promises.antt.
-use Rattle.std.specs.Prelude.{◌≡◌, true, false, List, [], ◌++◌, ℕ, ◌+◌, ◌-◌, ◌≤◌, ◌<◌, length, take, drop, replicate}
+use Rattle.std.specs.Prelude.{◌≡◌, true, false, Option, Some, None, List, [], ◌++◌, ℕ, ◌+◌, ◌-◌, ◌≤◌, ◌<◌, length, take, drop, replicate}
 use Rattle.table.specs.Balanced.{at, count_of}
-use Rattle.screening.specs.declared.Report.{Report}
-use Rattle.screening.specs.declared.Report.TheVariants.{Start, None}
 use Rattle.screening.specs.Report.{window, windows, faulty, faulty_run, report}
 use Rattle.screening.specs.Window.{after, Holds}
 
@@ -29,16 +27,16 @@ RunRight =
     × ((start value : ℕ) → value < 256 → 20 < count_of value (take 512 (drop start run)) → faulty_run run ≡ true)
 
 -- what a report says of a run: that a window is faulty and none before it, or that none is
-unfoldable pub Says : (run : List ℕ) → Report → Type 0
-Says run (Start start) =
+unfoldable pub Says : (run : List ℕ) → Option ℕ → Type 0
+Says run (Some start) =
     (start < windows run) × (faulty (window run start) ≡ true) × ((earlier : ℕ) → earlier < start → faulty (window run earlier) ≡ false)
 Says run None = (start : ℕ) → start < windows run → faulty (window run start) ≡ false
 
 -- the report says what is so, and nothing else says it; it gives a start just if the run is faulty
 unfoldable pub ReportRight : Type 0
 ReportRight =
-    (run : List ℕ) → Says run (report run) × ((other : Report) → Says run other → other ≡ report run)
-    × ((start : ℕ) → report run ≡ Start start → faulty_run run ≡ true) × (report run ≡ None → faulty_run run ≡ false)
+    (run : List ℕ) → Says run (report run) × ((other : Option ℕ) → Says run other → other ≡ report run)
+    × ((start : ℕ) → report run ≡ Some start → faulty_run run ≡ true) × (report run ≡ None → faulty_run run ≡ false)
 
 -- an empty run is not faulty
 unfoldable pub EmptyRight : Type 0
@@ -48,7 +46,7 @@ EmptyRight = (report [] ≡ None) × (faulty_run [] ≡ false)
 unfoldable pub StuckNoticed : Type 0
 StuckNoticed =
     ((before rest : List ℕ) (value : ℕ) → value < 256 → faulty_run (before ++ (replicate 21 value ++ rest)) ≡ true)
-    × ((rest : List ℕ) (value : ℕ) → value < 256 → report (replicate 21 value ++ rest) ≡ Start 0)
+    × ((rest : List ℕ) (value : ℕ) → value < 256 → report (replicate 21 value ++ rest) ≡ Some 0)
 
 -- a run in which no value stands more than 20 times is not faulty, however long it is
 unfoldable pub FewPasses : Type 0

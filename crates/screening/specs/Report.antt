@@ -1,8 +1,6 @@
 -- Which windows of a run of bytes are faulty, and the report on a run. All of it is about the list of bytes alone.
-use Rattle.std.specs.Prelude.{Bool, false, ◌||◌, cond, List, [], ◌∷◌, ℕ, zero, suc, ◌-◌, ltb, length, take, drop}
+use Rattle.std.specs.Prelude.{Bool, false, ◌||◌, cond, Option, Some, None, List, [], ◌∷◌, ℕ, zero, suc, ◌-◌, ltb, length, take, drop}
 use Rattle.table.specs.Balanced.{count_of}
-use Rattle.screening.specs.declared.Report.{Report}
-use Rattle.screening.specs.declared.Report.TheVariants.{Start, None}
 
 -- the window that starts there: 512 consecutive bytes, or the whole run where it is shorter
 unfoldable pub window : (run : List ℕ) → (start : ℕ) → List ℕ
@@ -27,10 +25,10 @@ unfoldable pub faulty_run : List ℕ → Bool
 faulty_run run = some_below (windows run) (λ start. faulty (window run start))
 
 -- the first of so many starts, beginning with this one, that passes the test, or none
-unfoldable pub first_from : (start count : ℕ) → (test : ℕ → Bool) → Report
+unfoldable pub first_from : (start count : ℕ) → (test : ℕ → Bool) → Option ℕ
 first_from start zero test = None
-first_from start (suc k) test = cond (test start) (Start start) (first_from (suc start) k test)
+first_from start (suc k) test = cond (test start) (Some start) (first_from (suc start) k test)
 
 -- the first faulty window's start, counted from 0, or none
-unfoldable pub report : (run : List ℕ) → Report
+unfoldable pub report : (run : List ℕ) → Option ℕ
 report run = first_from 0 (windows run) (λ start. faulty (window run start))

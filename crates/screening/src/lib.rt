@@ -7,13 +7,6 @@ ghost use Rattle.table.specs.Balanced.{at};
 ghost use Rattle.screening.specs.Report.{report};
 ghost use Rattle.screening.specs.Window.{empty_window, without, with_one};
 
-// The report on a run: where its first faulty window starts, counted from 0, or that none is faulty.
-#[derive(Clone, Copy)]
-pub enum Report {
-    Start(usize),
-    None,
-}
-
 // The last 512 bytes, byte i of a run at i mod 512, and how often each value stands among them.
 #[derive(Clone, Copy)]
 pub struct Window {
@@ -21,8 +14,9 @@ pub struct Window {
     pub counts: [u16; 256],
 }
 
-// Looks at a run of any length. Nothing is refused.
-pub fn screen(run: &[u8]) -> Report
+// Where the first faulty window of a run starts, counted from 0, if one is faulty. A run may have any length; nothing is refused.
+#[tactic(auto, unfolding(crate::specs::Window::empty_window))]
+pub fn screen(run: &[u8]) -> Option<usize>
     ensures { result ≡ report run.now }
 {
     let window = Window {
@@ -34,23 +28,20 @@ pub fn screen(run: &[u8]) -> Report
 
 // Feeds an empty window with the bytes of a run, until a value stands in it too often. The window comes by value, once a run: handed
 // over with each byte it would be copied with each byte.
-fn fed(mut window: Window, run: &[u8]) -> Report
+fn fed(mut window: Window, run: &[u8]) -> Option<usize>
     requires { window ≡ empty_window }
     ensures { result ≡ report run.now }
 {
-    let mut position = 0;
-    while position < run.len() {
-        let byte = run[position];
+    for (position, &byte) in run.iter().enumerate() {
         let place = position % 512;
         let leaving = window.ring[place];
         window.ring[place] = byte;
         take_off(&mut window.counts, position, leaving);
         if 20 < add(&mut window.counts, byte) {
-            return Report::Start(start_of(position));
+            return Some(start_of(position));
         }
-        position += 1;
     }
-    Report::None
+    None
 }
 
 // The start of the window that a byte ends, 0 for each of the first 512 bytes.
@@ -64,6 +55,7 @@ fn start_of(position: usize) -> usize
 }
 
 // Takes the byte that leaves off its count, from position 512 on.
+#[tactic(auto, using(crate::proofs::Holding::none_leaves, crate::proofs::Holding::one_leaves), unfolding(table::specs::Balanced::at))]
 fn take_off(counts: &mut [u16; 256], position: usize, byte: u8)
     requires { 512 ≤ position → 0 < at counts.old byte }
     ensures { counts.new ≡ without position byte counts.old }
@@ -75,6 +67,7 @@ fn take_off(counts: &mut [u16; 256], position: usize, byte: u8)
 }
 
 // Adds a byte to its count, and tells the count.
+#[tactic(auto, unfolding(table::specs::Balanced::at, crate::specs::Window::with_one))]
 fn add(counts: &mut [u16; 256], byte: u8) -> u16
     requires { at counts.old byte ≤ 20 }
     ensures value { result ≡ at counts.old byte + 1 }

@@ -101,36 +101,37 @@ module _ (s : Selection) where
     pub width_small : r ≡ false → s.width ≤ 8
     width_small f = (inside 1 8 s.width (sym told ∙ f)).1
 
-    module _ (f : r ≡ false) (k : ℕ) (of_words : k ≡ first_of (word_checks s)) where
+    module _ (f : r ≡ false) where
       behind_20 : {p : ℕ} → p ≡ first_of (word_checks s ++ bit_checks s ++ mask_checks s) → p ≡ plain_select_refusal s
       unfolding plain_select_refusal width_checks
       behind_20 e = goes 20 _ (sym told ∙ f) e
 
-      pub at_words : (k ≡ 0 → ⊥) → k ≡ plain_select_refusal s
-      at_words h = behind_20 (stops_both _ (mask_checks s) (stops_both (word_checks s) (bit_checks s) of_words h) h)
+      pub at_words : (k : ℕ) → k ≡ first_of (word_checks s) → (k ≡ 0 → ⊥) → k ≡ plain_select_refusal s
+      at_words k of_words h = behind_20 (stops_both _ (mask_checks s) (stops_both (word_checks s) (bit_checks s) of_words h) h)
 
-      module _ (z : k ≡ 0) (j : ℕ) (of_bits : j ≡ first_of (bit_checks s)) where
-        bits_next : j ≡ first_of (word_checks s ++ bit_checks s)
-        bits_next = goes_both (word_checks s) (bit_checks s) word_numbered (sym z ∙ of_words) of_bits
+      module _ (of_words : 0 ≡ first_of (word_checks s)) where
+        bits_next : {j : ℕ} → j ≡ first_of (bit_checks s) → j ≡ first_of (word_checks s ++ bit_checks s)
+        bits_next of_bits = goes_both (word_checks s) (bit_checks s) word_numbered of_words of_bits
 
-        pub at_bits : (j ≡ 0 → ⊥) → j ≡ plain_select_refusal s
-        at_bits h = behind_20 (stops_both _ (mask_checks s) bits_next h)
+        pub at_bits : (j : ℕ) → j ≡ first_of (bit_checks s) → (j ≡ 0 → ⊥) → j ≡ plain_select_refusal s
+        at_bits j of_bits h = behind_20 (stops_both _ (mask_checks s) (bits_next of_bits) h)
 
-        pub at_masks : (p : ℕ) → j ≡ 0 → p ≡ first_of (mask_checks s) → p ≡ plain_select_refusal s
-        at_masks p y e = behind_20 (goes_both _ (mask_checks s) both_numbered (sym y ∙ bits_next) e)
+        pub at_masks : (p : ℕ) → 0 ≡ first_of (bit_checks s) → p ≡ first_of (mask_checks s) → p ≡ plain_select_refusal s
+        at_masks p of_bits e = behind_20 (goes_both _ (mask_checks s) both_numbered (bits_next of_bits) e)
 
   -- then 14
-  module _ (lent : List ℕ) (k : ℕ) (told : k ≡ plain_select_refusal s) where
-    pub at_plain : (k ≡ 0 → ⊥) → k ≡ select_refusal s lent
+  module _ (lent : List ℕ) where
+    pub at_plain : (k : ℕ) → k ≡ plain_select_refusal s → (k ≡ 0 → ⊥) → k ≡ select_refusal s lent
     unfolding plain_select_refusal select_refusal
-    at_plain h = stops_both _ _ told h
+    at_plain k told h = stops_both _ _ told h
 
-    behind_21 : {p : ℕ} → k ≡ 0 → p ≡ first_of (14 when (ltb (length lent) 28) ∷ []) → p ≡ select_refusal s lent
-    unfolding plain_select_refusal select_refusal
-    behind_21 z e = goes_both (width_checks s ++ word_checks s ++ bit_checks s ++ mask_checks s) _ all_numbered (sym z ∙ told) e
+    module _ (told : 0 ≡ plain_select_refusal s) where
+      behind_21 : {p : ℕ} → p ≡ first_of (14 when (ltb (length lent) 28) ∷ []) → p ≡ select_refusal s lent
+      unfolding plain_select_refusal select_refusal
+      behind_21 e = goes_both (width_checks s ++ word_checks s ++ bit_checks s ++ mask_checks s) _ all_numbered told e
 
-    pub at_14 : k ≡ 0 → length lent < 28 → 14 ≡ select_refusal s lent
-    at_14 z h = behind_21 z (stops 14 _ (lt-ltb _ _ h))
+      pub at_14 : length lent < 28 → 14 ≡ select_refusal s lent
+      at_14 h = behind_21 (stops 14 _ (lt-ltb _ _ h))
 
-    pub at_none : k ≡ 0 → 28 ≤ length lent → 0 ≡ select_refusal s lent
-    at_none z h = behind_21 z (goes 14 _ (le-ltb _ _ h) none_applies)
+      pub at_none : 28 ≤ length lent → 0 ≡ select_refusal s lent
+      at_none h = behind_21 (goes 14 _ (le-ltb _ _ h) none_applies)

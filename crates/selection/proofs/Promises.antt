@@ -13,7 +13,7 @@ use Rattle.refusals.proofs.Left.{left_refused, left_accepted}
 use Rattle.buffers.specs.Written.{in_front}
 use Rattle.buffers.proofs.Written.{in_front_take, in_front_drop}
 use Rattle.halves.specs.declared.Selection.{Selection}
-use Rattle.selection.specs.declared.Selected.{Selected}
+use Rattle.selection.specs.Selected.{Selected}
 use Rattle.halves.specs.Halves.{half, c3, masked, registers, share}
 use Rattle.selection.specs.Log.{half_values, log_of}
 use Rattle.selection.specs.Select.{width_checks, word_checks, bit_checks, mask_checks, plain_select_refusal, select_refusal}
@@ -127,6 +127,6 @@ pub logged_refusals_right : LoggedRefusalsRight
 unfolding LoggedRefusalsRight
 logged_refusals_right s lent = (
   λ some. sym (at_plain s lent _ refl some),
-  λ e short. sym (at_14 s lent 0 (sym e) refl short),
-  λ e room. sym (at_none s lent 0 (sym e) refl room),
+  λ e short. sym (at_14 s lent (sym e) short),
+  λ e room. sym (at_none s lent (sym e) room),
 )

@@ -5,7 +5,7 @@ use Prim.Native.Nat.{ℕ, zero, suc}
 use Rattle.refusals.proofs.Left.{left_refused, left_accepted}
 use Rattle.buffers.specs.Written.{in_front}
 use Rattle.halves.specs.declared.Selection.{Selection}
-use Rattle.selection.specs.declared.Selected.{Selected}
+use Rattle.selection.specs.Selected.{Selected}
 use Rattle.halves.specs.Halves.{share}
 use Rattle.selection.specs.Log.{log_of}
 use Rattle.selection.specs.Select.{plain_select_refusal, select_refusal, selected, select_reply, select_log, plain_select_share}
@@ -34,9 +34,6 @@ module _ (s : Selection) (lent : List ℕ) (k : ℕ) (told : k ≡ select_refusa
   log_accepted after z e = e ∙ left_accepted k _ _ lent told z
 
 module _ (s : Selection) (k : ℕ) (told : k ≡ plain_select_refusal s) where
-  pub zero_told : k ≡ 0 → 0 ≡ plain_select_refusal s
-  zero_told z = sym z ∙ told
-
   pub share_refused : (register old : ℕ) → (k ≡ 0 → ⊥) → old ≡ plain_select_share register s old
   unfolding plain_select_share
   share_refused register old h = left_refused k _ _ old told h

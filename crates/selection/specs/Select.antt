@@ -5,7 +5,7 @@ use Rattle.refusals.specs.Tests.{outside, any_from}
 use Rattle.refusals.specs.Left.{left}
 use Rattle.buffers.specs.Written.{in_front}
 use Rattle.halves.specs.declared.Selection.{Selection}
-use Rattle.selection.specs.declared.Selected.{Selected}
+use Rattle.selection.specs.Selected.{Selected}
 use Rattle.halves.specs.Halves.{share}
 use Rattle.selection.specs.Log.{log_of}
 

@@ -1,91 +1,84 @@
 // The refusals of a selection, in their order. Each number is compared by itself: no value is formed of two of them.
+ghost use Rattle.refusals.specs.Numbers.{refusal_of};
 ghost use Rattle.std.specs.Prelude.{◌≡◌, ◌≤◌};
 ghost use Rattle.refusals.specs.Checks.{first_of};
 ghost use Rattle.selection.specs.Select.{word_checks, bit_checks, mask_checks, plain_select_refusal, select_refusal};
 
 use halves::Selection;
+use refusals::Refusal;
 
 // 20, 21 and 14
-pub fn refused_logged(selection: Selection, log: &[u32]) -> u32
-    ensures { result ≡ select_refusal selection log.now }
+pub fn refused_logged(selection: Selection, log: &[u32]) -> Result<(), Refusal>
+    ensures { refusal_of result ≡ select_refusal selection log.now }
 {
-    let refusal = refused(selection);
-    if refusal != 0 {
-        return refusal;
-    }
+    refused(selection)?;
     if log.len() < 28 {
-        return 14;
+        return Err(Refusal::ShortLog);
     }
-    0
+    Ok(())
 }
 
 // 20 and 21
-pub fn refused(selection: Selection) -> u32
-    ensures { result ≡ plain_select_refusal selection }
+pub fn refused(selection: Selection) -> Result<(), Refusal>
+    ensures { refusal_of result ≡ plain_select_refusal selection }
 {
     if refusals::outside(1, 8, selection.width) {
-        return 20;
+        return Err(Refusal::SelectionWidth);
     }
-    let of_words = refused_words(selection);
-    if of_words != 0 {
-        return of_words;
-    }
-    let of_bits = refused_bits(selection);
-    if of_bits != 0 {
-        return of_bits;
-    }
+    refused_words(selection)?;
+    refused_bits(selection)?;
     refused_masks(selection)
 }
 
 // The width has been checked, so it has a `requires`.
-fn refused_words(selection: Selection) -> u32
+fn refused_words(selection: Selection) -> Result<(), Refusal>
     requires { selection.width ≤ 8 }
-    ensures { result ≡ first_of (word_checks selection) }
+    ensures { refusal_of result ≡ first_of (word_checks selection) }
 {
     let words = bits::power(2 * selection.width);
     if words <= selection.z0 {
-        return 21;
+        return Err(Refusal::SelectionInput);
     }
     if words <= selection.z1 {
-        return 21;
+        return Err(Refusal::SelectionInput);
     }
     if words <= selection.z2 {
-        return 21;
+        return Err(Refusal::SelectionInput);
     }
-    0
+    Ok(())
 }
 
 // The limit comes through a barrier: where the compiler knows it to be 2, it compares c1 | c2 | b with it at once. t1 is the index.
-fn refused_bits(selection: Selection) -> u32
-    ensures { result ≡ first_of (bit_checks selection) }
+fn refused_bits(selection: Selection) -> Result<(), Refusal>
+    ensures { refusal_of result ≡ first_of (bit_checks selection) }
 {
     let two = lookup::value_barrier(2, selection.t1) as u32;
     if two <= selection.c0 {
-        return 21;
+        return Err(Refusal::SelectionInput);
     }
     if two <= selection.c1 {
-        return 21;
+        return Err(Refusal::SelectionInput);
     }
     if two <= selection.c2 {
-        return 21;
+        return Err(Refusal::SelectionInput);
     }
     if two <= selection.b {
-        return 21;
+        return Err(Refusal::SelectionInput);
     }
-    0
+    Ok(())
 }
 
 // The width has been checked, so it has a `requires`.
-fn refused_masks(selection: Selection) -> u32
+fn refused_masks(selection: Selection) -> Result<(), Refusal>
     requires { selection.width ≤ 8 }
-    ensures { result ≡ first_of (mask_checks selection) }
+    ensures { refusal_of result ≡ first_of (mask_checks selection) }
 {
     let halves = bits::power(selection.width);
     if halves <= selection.t1 {
-        return 21;
+        return Err(Refusal::SelectionInput);
     }
     if halves <= selection.t2 {
-        return 21;
+        return Err(Refusal::SelectionInput);
     }
-    0
+    Ok(())
 }

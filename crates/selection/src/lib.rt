@@ -2,6 +2,8 @@
 // without one. Neither the word nor the bit is ever formed.
 #![tactic(auto)]
 
+ghost use Rattle.refusals.specs.Numbers.{refusal_of};
+ghost use Rattle.selection.specs.Selected.{handed_selection};
 ghost use Rattle.std.specs.Prelude.{◌≡◌};
 ghost use Rattle.selection.specs.Select.{selection_from, select_reply, select_log, plain_select_refusal, plain_select_share};
 
@@ -9,11 +11,11 @@ mod checks;
 mod logged;
 
 use halves::Selection;
+use refusals::Refusal;
 
-// What the call hands back: its refusal, the three shares of the half, and the count of log entries.
-#[derive(Clone, Copy)]
-pub struct Selected {
-    pub refusal: u32,
+// What an accepted call hands back: the three shares of the half, and the count of log entries.
+#[derive(Clone, Copy, Debug, PartialEq, Eq)]
+pub struct HalfShares {
     pub first: u32,
     pub second: u32,
     pub third: u32,
@@ -33,8 +35,8 @@ pub fn select(
     t2: u32,
     b: u32,
     log: &mut [u32],
-) -> Selected
-    ensures value { result ≡ select_reply (selection_from width z0 z1 z2 c0 c1 c2 t1 t2 b) log.old }
+) -> Result<HalfShares, Refusal>
+    ensures value { handed_selection result ≡ select_reply (selection_from width z0 z1 z2 c0 c1 c2 t1 t2 b) log.old }
     ensures log_after { log.new ≡ select_log (selection_from width z0 z1 z2 c0 c1 c2 t1 t2 b) log.old }
 {
     let selection = Selection {
@@ -49,20 +51,11 @@ pub fn select(
         t2,
         b,
     };
-    let refusal = checks::refused_logged(selection, log);
-    if refusal != 0 {
-        return Selected {
-            refusal,
-            first: 0,
-            second: 0,
-            third: 0,
-            count: 0,
-        };
-    }
-    logged::run(selection, log)
+    checks::refused_logged(selection, log)?;
+    Ok(logged::run(selection, log))
 }
 
-// The same choice without a log. It returns its refusal, and puts each share of the half in a place of its own.
+// The same choice without a log. Accepted, it puts each share of the half in a place of its own.
 pub fn plain_select(
     width: u32,
     z0: u32,
@@ -77,8 +70,8 @@ pub fn plain_select(
     share0: &mut u8,
     share1: &mut u8,
     share2: &mut u8,
-) -> u32
-    ensures value { result ≡ plain_select_refusal (selection_from width z0 z1 z2 c0 c1 c2 t1 t2 b) }
+) -> Result<(), Refusal>
+    ensures value { refusal_of result ≡ plain_select_refusal (selection_from width z0 z1 z2 c0 c1 c2 t1 t2 b) }
     ensures share0_after { share0.new ≡ plain_select_share 0 (selection_from width z0 z1 z2 c0 c1 c2 t1 t2 b) share0.old }
     ensures share1_after { share1.new ≡ plain_select_share 1 (selection_from width z0 z1 z2 c0 c1 c2 t1 t2 b) share1.old }
     ensures share2_after { share2.new ≡ plain_select_share 2 (selection_from width z0 z1 z2 c0 c1 c2 t1 t2 b) share2.old }
@@ -95,10 +88,7 @@ pub fn plain_select(
         t2,
         b,
     };
-    let refusal = checks::refused(selection);
-    if refusal != 0 {
-        return refusal;
-    }
+    checks::refused(selection)?;
     halves::run(selection, share0, share1, share2);
-    0
+    Ok(())
 }

@@ -1,5 +1,6 @@
 // The run with a log: the same choice, and every value that it handles stands in the log. The checks have been made, so every function has
 // a `requires`.
+ghost use Rattle.selection.specs.Selected.{handed_selection};
 ghost use Rattle.std.specs.Prelude.{◌≡◌, [], ◌∷◌, ◌+◌, ◌≤◌, ◌<◌, length};
 ghost use Rattle.buffers.specs.Written.{written, in_front};
 ghost use Rattle.log_entries.specs.Entries.{entries};
@@ -8,7 +9,7 @@ ghost use Rattle.halves.specs.Halves.{share};
 ghost use Rattle.selection.specs.Log.{bit_values as log_bit_values, half_values as log_half_values, input_entries, half_entries, share_entries, log_of};
 ghost use Rattle.selection.specs.Select.{selected};
 
-use crate::Selected;
+use crate::HalfShares;
 use halves::Selection;
 
 // The kinds in the order of the log, behind those of the three words. docs/REFERENCE.md says what each shows.
@@ -20,10 +21,10 @@ const OTHER: [u8; 7] = [19, 20, 21, 22, 23, 25, 26];
 
 const END: [u8; 3] = [27, 28, 29];
 
-pub fn run(selection: Selection, log: &mut [u32]) -> Selected
+pub fn run(selection: Selection, log: &mut [u32]) -> HalfShares
     requires bounded { Bounded selection }
     requires in_bounds { 28 ≤ length log.old }
-    ensures value { result ≡ selected 0 (share 0 selection) (share 1 selection) (share 2 selection) }
+    ensures value { handed_selection (Ok result) ≡ selected 0 (share 0 selection) (share 1 selection) (share 2 selection) }
     ensures log_after { log.new ≡ in_front (log_of selection) log.old }
 {
     put_inputs(selection, log);
@@ -122,10 +123,10 @@ fn half_values(selection: Selection, bit: u32) -> [u8; 7]
 }
 
 // The shares of the half, by the run without a log, and what the call hands back.
-fn put_shares(selection: Selection, log: &mut [u32]) -> Selected
+fn put_shares(selection: Selection, log: &mut [u32]) -> HalfShares
     requires bounded { Bounded selection }
     requires in_bounds { 28 ≤ length log.old }
-    ensures value { result ≡ selected 0 (share 0 selection) (share 1 selection) (share 2 selection) }
+    ensures value { handed_selection (Ok result) ≡ selected 0 (share 0 selection) (share 1 selection) (share 2 selection) }
     ensures log_after { log.new ≡ written log.old 25 (share_entries selection) }
 {
     let mut first = 0u8;
@@ -133,8 +134,7 @@ fn put_shares(selection: Selection, log: &mut [u32]) -> Selected
     let mut third = 0u8;
     halves::run(selection, &mut first, &mut second, &mut third);
     log_entries::put(log, 25, &END, &[first, second, third]);
-    Selected {
-        refusal: 0,
+    HalfShares {
         first: first as u32,
         second: second as u32,
         third: third as u32,

@@ -1,5 +1,5 @@
 -- The laws of replies and of their refusal, as the calls need them.
-use mathlib.Core.Path.{◌≡◌, refl, ◌∙◌}
+use mathlib.Core.Path.{◌≡◌}
 use mathlib.Core.Bool.{true, false}
 use mathlib.Core.List.{List}
 use Prim.Native.Nat.{ℕ, zero, suc, ◌^◌, ◌<◌}
@@ -7,34 +7,30 @@ use native.Mathlib.Omega.{arith}
 use Rattle.refusals.specs.Tests.{outside, any_from}
 use Rattle.refusals.proofs.Checks.{stops, goes, none_applies}
 use Rattle.refusals.proofs.Tests.{inside}
-use Rattle.shares.specs.declared.Shares.{Shares}
+use Rattle.refusals.specs.declared.Refusal.{Refusal}
+use Rattle.refusals.specs.Numbers.{number_of}
+use Rattle.refusals.proofs.Numbers.{not_zero}
 use Rattle.shares.specs.Shares.{width_refusal, reply, secret_reply}
 
-pub refused : (k a b c : ℕ) → (k ≡ 0 → ⊥) → record { refusal = k; first = 0; second = 0; third = 0 } ≡ reply k a b c
+-- a refused call's numbers, and an accepted one's
+pub refused : (refusal : Refusal) (k a b c : ℕ) → number_of refusal ≡ k
+    → record { refusal = number_of refusal; first = 0; second = 0; third = 0 } ≡ reply k a b c
 unfolding reply
-refused zero a b c h = absurd (h refl)
-refused (suc k) a b c h = refl
+refused refusal zero a b c e = absurd (not_zero refusal e)
+refused refusal (suc k) a b c e = rw e
 
-pub accepted : (k a b c : ℕ) → k ≡ 0 → record { refusal = k; first = a; second = b; third = c } ≡ reply k a b c
+pub accepted : (k a b c : ℕ) → 0 ≡ k → record { refusal = 0; first = a; second = b; third = c } ≡ reply k a b c
 unfolding reply
-accepted k a b c h = rw h
+accepted k a b c e = rw (← e)
 
-pub replied_refused : (r : Shares) (j k a b c : ℕ) → r ≡ reply j 0 0 0 → j ≡ k → (j ≡ 0 → ⊥) → r ≡ reply k a b c
-unfolding reply
-replied_refused r zero k a b c e f h = absurd (h refl)
-replied_refused r (suc j) k a b c e f h = e ∙ rw (← f)
-
-pub replied : (r : Shares) (j k a b c : ℕ) → r ≡ reply j a b c → j ≡ k → r ≡ reply k a b c
-replied r j k a b c e f = rw f at e
-
-pub secret_refused : (j k x : ℕ) → j ≡ k → (j ≡ 0 → ⊥) → record { refusal = j; secret = 0 } ≡ secret_reply k x
+pub secret_refused : (refusal : Refusal) (k x : ℕ) → number_of refusal ≡ k → record { refusal = number_of refusal; secret = 0 } ≡ secret_reply k x
 unfolding secret_reply
-secret_refused zero k x e h = absurd (h refl)
-secret_refused (suc j) k x e h = rw (← e)
+secret_refused refusal zero x e = absurd (not_zero refusal e)
+secret_refused refusal (suc k) x e = rw e
 
-pub secret_accepted : (j k x : ℕ) → j ≡ k → j ≡ 0 → record { refusal = j; secret = x } ≡ secret_reply k x
+pub secret_accepted : (k x : ℕ) → 0 ≡ k → record { refusal = 0; secret = x } ≡ secret_reply k x
 unfolding secret_reply
-secret_accepted j k x e h = rw (← e, h)
+secret_accepted k x e = rw (← e)
 
 -- the two checks, as the code goes through them
 pub at_3 : (n : ℕ) (xs : List ℕ) → outside 1 8 n ≡ true → 3 ≡ width_refusal n xs

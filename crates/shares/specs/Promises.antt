@@ -1,8 +1,6 @@
 -- What is promised of splitting, joining and key addition. Each is a type; its proof stands in proofs/Promises.antt.
 use Rattle.std.specs.Prelude.{◌≡◌, ℕ}
 use Rattle.bits.specs.Xor.{◌⊕◌}
-use Rattle.shares.specs.declared.Shares.{Shares}
-use Rattle.shares.specs.declared.Joined.{Joined}
 use Rattle.shares.specs.Shares.{split, join, add_key}
 
 -- the shares of an accepted split join to the secret

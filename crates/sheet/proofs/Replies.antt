@@ -8,7 +8,7 @@ use lib.ListN.{length, take, replicate, length-take}
 use lib.Seq.{take_at}
 use Rattle.buffers.specs.Written.{in_front}
 use Rattle.lookup.specs.declared.Case.{Case}
-use Rattle.lookup.specs.declared.Called.{Called}
+use Rattle.lookup.specs.Called.{Called}
 use Rattle.lookup.specs.Call.{answer, log_of, log_length, scratch_length}
 use Rattle.lookup.specs.Refusals.{case_refusal, plain_refusal, logged_refusal}
 use Rattle.lookup.specs.Promises.{ClearedTaken, LogLong}

@@ -8,7 +8,7 @@ use lib.ListN.{length, take, replicate}
 use Rattle.buffers.specs.Written.{in_front}
 use Rattle.refusals.specs.Left.{left}
 use Rattle.lookup.specs.declared.Case.{Case}
-use Rattle.lookup.specs.declared.Called.{Called}
+use Rattle.lookup.specs.Called.{Called}
 use Rattle.lookup.specs.Refusals.{case_refusal, case_checks, box_checks, mask_checks, method_checks, plain_refusal, logged_refusal}
 use Rattle.lookup.specs.Promises.{ClearedTaken}
 use Rattle.lookup.proofs.Refused.{log_not_refused, logged_by_plain, refused_by_case}

@@ -4,7 +4,7 @@ use mathlib.Core.List.{List, [], ◌∷◌}
 use Prim.Native.Nat.{ℕ}
 use lib.ListN.{length}
 use Rattle.buffers.specs.Written.{in_front}
-use Rattle.lookup.specs.declared.Called.{Called}
+use Rattle.lookup.specs.Called.{Called}
 use Rattle.case_sheet.specs.Edition.{six_columns}
 use Rattle.log_print.specs.Lines.{line_of, unless_refused}
 use Rattle.log_print.proofs.Refused.{number_alone, nothing_refused}

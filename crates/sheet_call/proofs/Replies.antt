@@ -9,7 +9,7 @@ use lib.Seq.{take_at}
 use Rattle.buffers.specs.Written.{in_front}
 use Rattle.refusals.specs.Left.{left}
 use Rattle.lookup.specs.declared.Case.{Case}
-use Rattle.lookup.specs.declared.Called.{Called}
+use Rattle.lookup.specs.Called.{Called}
 use Rattle.lookup.specs.Call.{log_length, scratch_length}
 use Rattle.lookup.specs.Refusals.{case_refusal}
 use Rattle.lookup.specs.Promises.{LogLong}

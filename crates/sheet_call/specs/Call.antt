@@ -3,7 +3,7 @@ use Rattle.std.specs.Prelude.{cond, List, ℕ}
 use Rattle.refusals.specs.Left.{left}
 use Rattle.buffers.specs.Written.{in_front}
 use Rattle.lookup.specs.declared.Case.{Case}
-use Rattle.lookup.specs.declared.Called.{Called}
+use Rattle.lookup.specs.Called.{Called}
 use Rattle.lookup.specs.Call.{answer, log_of, log_length}
 use Rattle.lookup.specs.Refusals.{case_refusal}
 use Rattle.calls.specs.Reply.{called}

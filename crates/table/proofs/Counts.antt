@@ -1,38 +1,31 @@
--- What the two loops over a table and over its counts keep.
+-- What the loop over a table keeps, and the bits of joined numbers.
 use mathlib.Core.Path.{◌≡◌, refl, sym, ◌∙◌}
 use mathlib.Core.Bool.{Bool, true, false, ◌||◌, cond, or_assoc, or-false}
 use mathlib.Core.List.{List, [], ◌∷◌}
-use mathlib.Core.Logic.{inl, inr}
 use Prim.Native.Nat.{ℕ, suc, ◌+◌, ◌^◌, ◌≤◌, ◌<◌}
-use native.Mathlib.Nat.{add-zero, zero-add, add_assoc, le_trans, le_of_suc-le-suc, not-suc-le-zero, eq-or-lt_of_le}
+use native.Mathlib.Nat.{add-zero, zero-add, add_assoc, le_trans}
 use native.Mathlib.Numerals.{add-one}
 use native.Mathlib.Omega.{arith}
 use borrow.Author.Tests.{leb-true, leb-false, le-leb, lt-leb, eqb-true, eqb-false, eq-eqb}
 use mir.Syntax.{w16}
 use mir.Val.{Fits}
-use lib.Bits.{bit_or, or_lt, or_add_and, and_le_l, and_le_r}
+use lib.Bits.{bit_or, or_lt}
 use lib.Dec.{eqb, leb}
 use lib.ListN.{length, get_or, set, drop, replicate, length-set, length-replicate, get_or-replicate, drop_of_length-le}
 use lib.Pow.{pow_pos}
 use lib.Seq.{drop-cons, get_or-set_same, get_or-set_other}
+use Rattle.std.proofs.lemmas.Nat.{le_or_l, le_or_r}
 use Rattle.refusals.specs.Tests.{any_from}
 use Rattle.table.specs.Balanced.{at, count_of}
-use Rattle.table.specs.Counts.{Tally, JoinedCounts}
-
--- the joined bits are no less than either side
-or_above_l : (a b : ℕ) → a ≤ bit_or a b
-or_above_l a b = omega (arith, or_add_and a b, and_le_r a b)
-
-or_above_r : (a b : ℕ) → b ≤ bit_or a b
-or_above_r a b = omega (arith, or_add_and a b, and_le_l a b)
+use Rattle.table.specs.Counts.{Tally}
 
 -- they are 2^m or more when one of the sides is
 or_large : (m a b : ℕ) → leb (2 ^ m) (bit_or a b) ≡ (leb (2 ^ m) a || leb (2 ^ m) b)
 or_large m a b = or_large_by_cases (leb (2 ^ m) a) (leb (2 ^ m) b) refl refl
   where
     or_large_by_cases : (s t : Bool) → leb (2 ^ m) a ≡ s → leb (2 ^ m) b ≡ t → leb (2 ^ m) (bit_or a b) ≡ (s || t)
-    or_large_by_cases true t e f = le-leb _ _ (le_trans (leb-true _ _ e) (or_above_l a b))
-    or_large_by_cases false true e f = le-leb _ _ (le_trans (leb-true _ _ f) (or_above_r a b))
+    or_large_by_cases true t e f = le-leb _ _ (le_trans (leb-true _ _ e) (le_or_l a b))
+    or_large_by_cases false true e f = le-leb _ _ (le_trans (leb-true _ _ f) (le_or_r a b))
     or_large_by_cases false false e f = lt-leb _ _ (or_lt m a b (leb-false _ _ e) (leb-false _ _ f))
 
 -- one counter is raised
@@ -103,27 +96,3 @@ tallying_ends xs i counts joined h t =
       counted = λ v l. sym (add-zero _) ∙ (rw (drop_of_length-le xs h) at (t.counted v l));
       large = λ m. (rw (drop_of_length-le xs h) at (t.large m)) ∙ or-false _;
     }
-
--- after some counts: none of them is more than they are joined
-pub record Joining (counts : List ℕ) (joined value : ℕ) : Type 0 where
-  pub above : (v : ℕ) → v < value → at counts v ≤ joined
-
-pub join_begins : (counts : List ℕ) → Joining counts 0 0
-join_begins counts = record { above = λ v h. absurd (not-suc-le-zero h) }
-
-pub join_turns : (counts : List ℕ) (joined value : ℕ) → Joining counts joined value
-    → Joining counts (bit_or joined (get_or counts value 0)) (value + 1)
-unfolding at
-join_turns counts joined value j =
-    rw (add-one value)
-    (record {
-      above = λ v l.
-          elim (eq-or-lt_of_le (le_of_suc-le-suc l)) [
-            | inl p ↦ rw p (or_above_r joined (get_or counts value 0))
-            | inr k ↦ le_trans (j.above v k)
-                (or_above_l joined (get_or counts value 0))
-          ];
-    })
-
-pub join_ends : (counts : List ℕ) (joined value : ℕ) → 256 ≤ value → Joining counts joined value → JoinedCounts counts joined
-join_ends counts joined value h j = record { above = λ v l. j.above v (le_trans l h) }

@@ -7,7 +7,7 @@ use native.Mathlib.Nat.{le_trans}
 use native.Mathlib.Omega.{arith}
 use borrow.Author.Tests.{eqb-false, eq-eqb, ne_eqb, leb-true, leb-false}
 use lib.Dec.{eqb, leb}
-use lib.ListN.{length, get_or}
+use lib.ListN.{get_or}
 use lib.Pow.{pow_mono, pow_pos}
 use Rattle.bits.specs.Xor.{◌⊕◌}
 use Rattle.bits.proofs.Xor.{below, xors, cancel}
@@ -41,9 +41,6 @@ module _ (n m : ℕ) (xs counts : List ℕ) (c : Counted n m xs counts) where
   first_in = entry_in xs 0 (rw c.long (pow_pos n))
 
   -- what the code asks of the first entry
-  pub some_entry : 0 < length xs
-  some_entry = rw c.long (pow_pos n)
-
   pub first_below : get_or xs 0 0 < 2 ^ m
   unfolding at
   first_below = first_small

@@ -2,66 +2,37 @@
 use mathlib.Core.Path.{◌≡◌, refl, sym, ap, ◌∙◌}
 use mathlib.Core.Bool.{Bool, true, false, ◌||◌, true≢false}
 use mathlib.Core.List.{List}
-use mathlib.Core.Logic.{inl, inr}
 use Prim.Native.Nat.{ℕ, suc, ◌+◌, ◌*◌, ◌-◌, ◌^◌, ◌≤◌, ◌<◌}
-use native.Mathlib.Nat.{le_trans, le_of_lt, le_of_suc-le-suc, not-suc-le-zero, eq-or-lt_of_le, pow-suc, zero-mul, zero-add}
+use native.Mathlib.Nat.{le_trans, le_of_lt, pow-suc, zero-mul, zero-add}
 use native.Mathlib.Numerals.{add-one}
 use native.Mathlib.Omega.{arith}
 use borrow.Author.Tests.{eqb-true, eqb-false, eq-eqb, ne_eqb, leb-true, leb-false}
-use mir.Syntax.{w16, w64}
-use mir.Val.{Fits}
 use lib.Bits.{bit_xor, xor_block}
 use lib.Dec.{eqb, leb}
 use lib.ListN.{get_or}
-use lib.Pow.{pow_mono, pow_pos}
+use lib.Pow.{pow_mono}
 use Rattle.bits.specs.Xor.{◌⊕◌}
 use Rattle.bits.proofs.Xor.{below, xors, assoc, zero_r}
 use Rattle.table.specs.Balanced.{at}
 use Rattle.table.specs.Counts.{period, all_periods, DifferenceFound}
 use Rattle.table.proofs.Balanced.{below as each_below, all_pass, one_fails}
 
--- two bytes joined are a place among the counts
-pub counts_place : (a b : ℕ) → a < 256 → b < 256 → bit_xor a b < 256
-unfolding ◌⊕◌
-counts_place a b h k = below 8 h k
-
-pub place_fits : (a b : ℕ) → a < 256 → b < 256 → Fits w64 (bit_xor a b)
-place_fits a b h k = record { fits = omega (arith, counts_place a b h k) }
-
-pub place_fits_twice : (a b : ℕ) → a < 256 → b < 256 → Fits w64 (bit_xor a b * 2)
-place_fits_twice a b h k = record { fits = omega (arith, counts_place a b h k) }
-
+-- two bytes joined, as the code joins them
 pub count_placed : (counts : List ℕ) (a b : ℕ) → get_or counts (bit_xor a b) 0 ≡ at counts (a ⊕ b)
 unfolding at ◌⊕◌
 count_placed counts a b = refl
 
 -- after some values: none of them has another count than its shift
-pub record Agreeing (counts : List ℕ) (difference limit value : ℕ) : Type 0 where
-  pub within : value ≤ limit
-  pub agrees : (v : ℕ) → v < value → at counts (v ⊕ difference) ≡ at counts v
-
 module _ (counts : List ℕ) (difference limit : ℕ) where
-  pub agreeing_begins : Agreeing counts difference limit 0
-  agreeing_begins = record { within = omega arith; agrees = λ v h. absurd (not-suc-le-zero h) }
-
-  pub agreeing_turns : (value shifted : ℕ) → value < limit → shifted ≡ at counts (value ⊕ difference) → shifted ≡ get_or counts value 0
-      → Agreeing counts difference limit value → Agreeing counts difference limit (value + 1)
-  unfolding at
-  agreeing_turns value shifted h f e a =
-      rw (add-one value)
-      (record {
-        within = h;
-        agrees = λ v l. elim (eq-or-lt_of_le (le_of_suc-le-suc l)) [ inl p ↦ rw p (sym f ∙ e) | inr k ↦ a.agrees v k ];
-      })
-
   pub agreeing_stops : (value shifted : ℕ) → value < limit → shifted ≡ at counts (value ⊕ difference) → (shifted ≡ get_or counts value 0 → ⊥)
       → false ≡ period limit counts difference
   unfolding period at
   agreeing_stops value shifted h f e = sym (one_fails limit _ value h (ne_eqb _ _ (λ p. e (f ∙ p))))
 
-  pub agreeing_ends : (value : ℕ) → limit ≤ value → Agreeing counts difference limit value → true ≡ period limit counts difference
+  pub agreeing_ends : (value : ℕ) → limit ≤ value → ((v : ℕ) → v < value → at counts (v ⊕ difference) ≡ at counts v)
+      → true ≡ period limit counts difference
   unfolding period
-  agreeing_ends value h a = sym (all_pass limit _ (λ v l. eq-eqb _ _ (a.agrees v (le_trans l h))))
+  agreeing_ends value h agrees = sym (all_pass limit _ (λ v l. eq-eqb _ _ (agrees v (le_trans l h))))
 
   pub period_same : period limit counts difference ≡ true → (v : ℕ) → v < limit → at counts (v ⊕ difference) ≡ at counts v
   unfolding period
@@ -76,62 +47,6 @@ module _ (counts : List ℕ) (difference limit : ℕ) where
 pub power_most : (k power : ℕ) → power ≡ 2 ^ k → k ≤ 8 → power ≤ 256
 power_most k power e h = rw e (pow_mono h)
 
-pub power_fits : (k power : ℕ) → power ≡ 2 ^ k → k ≤ 8 → Fits w16 power
-power_fits k power e h = record { fits = omega (arith, power_most k power e h) }
-
--- twice a power of two is the next
-pub power_twice : (bit low : ℕ) → low ≡ 2 ^ bit → low * 2 ≡ 2 ^ suc bit
-power_twice bit low e = ap (λ p. p * 2) e ∙ sym (pow-suc 2 bit)
-
-pub power_twice_fits : (bit low : ℕ) → low ≡ 2 ^ bit → bit < 8 → Fits w16 (low * 2)
-power_twice_fits bit low e h = power_fits (suc bit) (low * 2) (power_twice bit low e) h
-
--- after some differences, from the lowest with a highest bit on: none of them leads from the first entry to a value that occurs
-pub record Looking (counts : List ℕ) (first bit end difference : ℕ) : Type 0 where
-  pub behind : end ≡ 2 ^ suc bit
-  pub few : end ≤ 256
-  pub least : 2 ^ bit ≤ difference
-  pub absent : (d : ℕ) → 2 ^ bit ≤ d → d < difference → at counts (first ⊕ d) ≡ 0
-
-pub looking_begins : (counts : List ℕ) (first bit low : ℕ) → low ≡ 2 ^ bit → bit < 8 → Looking counts first bit (low * 2) low
-looking_begins counts first bit low e h =
-    record {
-      behind = power_twice bit low e;
-      few = power_most (suc bit) (low * 2) (power_twice bit low e) h;
-      least = omega arith;
-      absent = λ d g l. absurd (omega arith);
-    }
-
-module _ {counts : List ℕ} {first bit end difference : ℕ} (k : Looking counts first bit end difference) where
-  pub looking_turns : (count : ℕ) → count ≡ at counts (first ⊕ difference) → count ≡ 0 → Looking counts first bit end (difference + 1)
-  looking_turns count f e =
-      rw (add-one difference)
-      (record {
-        behind = k.behind;
-        few = k.few;
-        least = omega (arith, k.least);
-        absent = λ d h l. elim (eq-or-lt_of_le (le_of_suc-le-suc l)) [ inl p ↦ rw p (sym f ∙ e) | inr j ↦ k.absent d h j ];
-      })
-
-  pub looking_finds : (count : ℕ) → count ≡ at counts (first ⊕ difference) → (count ≡ 0 → ⊥) → difference < end
-      → DifferenceFound counts first bit difference
-  looking_finds count f found h =
-      record {
-        least = λ _. k.least;
-        most = rw (← k.behind) h;
-        occurs = λ _ z. found (f ∙ z);
-        none = λ z d g l. absurd (omega (arith, pow_pos bit, k.least));
-      }
-
-  pub looking_ends : end ≤ difference → DifferenceFound counts first bit 0
-  looking_ends h =
-      record {
-        least = λ z. absurd (z refl);
-        most = pow_pos (suc bit);
-        occurs = λ z. absurd (z refl);
-        none = λ _ d g l. k.absent d g (le_trans (rw (← k.behind) at l) h);
-      }
-
 -- the ⊕ of two numbers with the same highest bit is below it
 same_highest : (bit c d : ℕ) → 2 ^ bit ≤ c → c < 2 ^ suc bit → 2 ^ bit ≤ d → d < 2 ^ suc bit → c ⊕ d < 2 ^ bit
 unfolding ◌⊕◌
@@ -142,19 +57,13 @@ same_highest bit c d h k l o =
     rw (split c h, split d l, xor_block bit 1 1 (c - p) (d - p) (rest c h k) (rest d l o), zero-mul, zero-add)
     (below bit (rest c h k) (rest d l o))
 
-pub difference_byte : (m : ℕ) (counts : List ℕ) (first bit difference : ℕ) → DifferenceFound counts first bit difference → bit < m → m ≤ 8
-    → difference < 256
-difference_byte m counts first bit difference found h k = le_trans found.most (pow_mono (le_trans h k))
-
 -- after some highest bits: each difference below them that leads from the first entry to a value that occurs is a period
 pub record PeriodsTo (m : ℕ) (counts : List ℕ) (first bit : ℕ) : Type 0 where
-  pub within : bit ≤ m
   pub periods : (d : ℕ) → d < 2 ^ bit → (at counts (first ⊕ d) ≡ 0 → ⊥) → (v : ℕ) → v < 2 ^ m → at counts (v ⊕ d) ≡ at counts v
 
 module _ (m : ℕ) (counts : List ℕ) (first : ℕ) where
   pub periods_begin : PeriodsTo m counts first 0
   periods_begin = record {
-    within = omega arith;
     periods = λ d h _ v _.
         let none : d ≡ 0 = omega arith in
         ap (at counts) (rw none (zero_r v));
@@ -163,7 +72,7 @@ module _ (m : ℕ) (counts : List ℕ) (first : ℕ) where
   pub periods_turn : (bit difference limit : ℕ) → bit < m → first < 2 ^ m → limit ≡ 2 ^ m → DifferenceFound counts first bit difference
       → period limit counts difference ≡ true → PeriodsTo m counts first bit → PeriodsTo m counts first (bit + 1)
   periods_turn bit difference limit h small e found p k =
-      rw (add-one bit) (record { within = h; periods = λ d l o. periods_by_cases d l o (leb (2 ^ bit) d) (eqb difference 0) refl refl })
+      rw (add-one bit) (record { periods = λ d l o. periods_by_cases d l o (leb (2 ^ bit) d) (eqb difference 0) refl refl })
     where
       Same : ℕ → Type 0
       Same d = (v : ℕ) → v < 2 ^ m → at counts (v ⊕ d) ≡ at counts v

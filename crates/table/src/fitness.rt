@@ -26,10 +26,8 @@ fn joined_counts(counts: &[u16; 256]) -> u16
     ensures { JoinedCounts counts.now result }
 {
     let mut joined = 0;
-    let mut value: u16 = 0;
-    while value < 256 {
+    for value in 0..256u16 {
         joined |= counts[value as usize];
-        value += 1;
     }
     joined
 }
@@ -42,13 +40,11 @@ fn all_periods(counts: &[u16; 256], first: u8, output_width: u32) -> bool
     ensures { result ≡ counts_all_periods (2 ^ output_width) counts.now first }
 {
     let limit = bits::power(output_width) as u16;
-    let mut bit = 0;
-    while bit < output_width {
+    for bit in 0..output_width {
         let difference = find_difference(counts, first, bit);
         if !is_period(counts, difference, limit) {
             return false;
         }
-        bit += 1;
     }
     true
 }
@@ -60,12 +56,10 @@ fn find_difference(counts: &[u16; 256], first: u8, bit: u32) -> u16
 {
     let low = bits::power(bit) as u16;
     let end = low * 2;
-    let mut difference = low;
-    while difference < end {
+    for difference in low..end {
         if count_at(counts, first as u16, difference) != 0 {
             return difference;
         }
-        difference += 1;
     }
     0
 }
@@ -78,12 +72,10 @@ fn is_period(counts: &[u16; 256], difference: u16, limit: u16) -> bool
     if difference == 0 {
         return true;
     }
-    let mut value: u16 = 0;
-    while value < limit {
+    for value in 0..limit {
         if count_at(counts, value, difference) != counts[value as usize] {
             return false;
         }
-        value += 1;
     }
     true
 }

@@ -2,33 +2,36 @@
 #![tactic(auto)]
 
 ghost use Rattle.std.specs.Prelude.{◌≡◌, ◌≤◌, length, replicate};
+ghost use Rattle.refusals.specs.Numbers.{refusal_of};
 ghost use Rattle.table.specs.Refusals.{table_refusal as refusals_table_refusal};
 ghost use Rattle.table.specs.Counts.{Tally};
 
 mod fitness;
 
-// The number of the first check that refuses the table or its widths, or 0.
-pub fn table_refusal(input_width: u32, output_width: u32, table: &[u8]) -> u32
-    ensures { result ≡ refusals_table_refusal input_width output_width table.now }
+use refusals::Refusal;
+
+// The first check that refuses the table or its widths.
+pub fn table_refusal(input_width: u32, output_width: u32, table: &[u8]) -> Result<(), Refusal>
+    ensures { refusal_of result ≡ refusals_table_refusal input_width output_width table.now }
 {
     if refusals::outside(1, 8, input_width) {
-        return 3;
+        return Err(Refusal::InputWidth);
     }
     if refusals::outside(1, 8, output_width) {
-        return 4;
+        return Err(Refusal::OutputWidth);
     }
     if table.len() != bits::power(input_width) as usize {
-        return 5;
+        return Err(Refusal::TableLength);
     }
     let mut counts: [u16; 256] = [0; 256];
     let joined = tally(table, &mut counts);
     if bits::power(output_width) <= joined as u32 {
-        return 6;
+        return Err(Refusal::TableEntry);
     }
     if !fitness::is_fit(input_width, output_width, table, &counts) {
-        return 7;
+        return Err(Refusal::UnfitTable);
     }
-    0
+    Ok(())
 }
 
 // Counts each value of the table, and joins all entries by bitwise or. The caller has checked that there are at most 256 entries,
@@ -39,12 +42,10 @@ fn tally(table: &[u8], counts: &mut [u16; 256]) -> u8
 {
     let size = table.len() as u16;
     let mut joined = 0;
-    let mut i: u16 = 0;
-    while i < size {
+    for i in 0..size {
         let entry = table[i as usize];
         counts[entry as usize] += 1;
         joined |= entry;
-        i += 1;
     }
     joined
 }

@@ -1,7 +1,8 @@
 -- The refusal of a wide table, as the code finds it and as the calls' lists of checks have it.
-use mathlib.Core.Path.{◌≡◌, refl, sym, ◌∙◌}
+use mathlib.Core.Path.{◌≡◌, refl, sym, ap, ◌∙◌}
 use mathlib.Core.Bool.{Bool, true, false, not, cond}
-use mathlib.Core.List.{List, ◌++◌}
+use mathlib.Core.List.{List, ◌++◌, map}
+use Rattle.std.proofs.lemmas.List.{map-id}
 use Prim.Native.Nat.{ℕ, ◌^◌, ◌≤◌, ◌<◌}
 use native.Mathlib.Omega.{arith}
 use borrow.Author.Tests.{not-true, not-false}
@@ -26,6 +27,10 @@ too_large m table h w =
 -- a width that is let in leaves room for a shift
 pub power_known : (n : ℕ) (t : Bool) → t ≡ outside 1 8 n → t ≡ false → n < 32
 power_known n t e h = omega (arith, (inside 1 8 n (sym e ∙ h)).1)
+
+-- what the look for such an entry told
+pub told_wide : (table : List ℕ) (w : Bool) → w ≡ any_from 256 (map (λ x. x) table) → w ≡ any_from 256 table
+told_wide table w e = e ∙ ap (any_from 256) (map-id table)
 
 module _ (method n m : ℕ) (table : List ℕ) (w : Bool) (looked : w ≡ any_from 256 table) where
   pub at_none : not w ≡ true → 0 ≡ wide_refusal method n m table

@@ -1,11 +1,8 @@
-use Rattle.call_checks.proofs.Scratch.{marked_begins, cell_within, marked_turns, marked_ends}
+use Rattle.call_checks.proofs.Scratch.{marked_begins, marked_turns, marked_ends}
 use Rattle.call_checks.proofs.dirty.Goals as goal
 
 pub loop-i-init : goal.loop-i-init
 loop-i-init c = search marked_begins
-
-pub bounds-cells-at : goal.bounds-cells-at
-bounds-cells-at c = search cell_within
 
 pub loop-i-preserved : goal.loop-i-preserved
 loop-i-preserved c = search marked_turns

@@ -1,10 +1,6 @@
 -- `call_checks::dirty` meets its contract. The invariant is `Marked`.
-use Prim.Native.Nat.{◌-◌}
 use Rattle.call_checks.proofs.Scratch.{Marked}
 use Rattle.call_checks.proofs.dirty.Given as goal
 
 abbrev pub invariant-loop-i : goal.invariant-loop-i
 invariant-loop-i l = Marked l.scratch l.cells l.size l.i
-
-abbrev pub decreases-loop-i : goal.decreases-loop-i
-decreases-loop-i l = l.size - l.i

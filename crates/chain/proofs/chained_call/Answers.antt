@@ -1,22 +1,23 @@
--- `chain::chained_call` meets its contract. What `refused` told, and that it was 0, are named at the call of `run_both`: there `search` has
--- too much to look through.
-use Rattle.chain.proofs.Replies.{refused_reply, first_scratch_kept, second_scratch_kept, first_log_kept, second_log_kept, chain_goes}
+-- `chain::chained_call` meets its contract.
+use mathlib.Core.Path.{sym}
+use Rattle.refusals.proofs.Numbers.{not_zero, handed_on}
+use Rattle.chain.proofs.Replies.{refused_reply, first_scratch_kept, second_scratch_kept, first_log_kept, second_log_kept}
 use Rattle.chain.proofs.chained_call.Goals as goal
 
-pub returns-then-refusal-ne0-clause-value : goal.returns-then-refusal-ne0-clause-value
-returns-then-refusal-ne0-clause-value c = search refused_reply
+pub returns-in_err-refused-clause-value : goal.returns-in_err-refused-clause-value
+returns-in_err-refused-clause-value c = rw (handed_on _ _ c.from_residual.ensures.1) (refused_reply _ _ _ _ _ _ _ _ _ c.in_err-refused.ensures (not_zero _))
 
-pub returns-then-refusal-ne0-clause-first_scratch_after : goal.returns-then-refusal-ne0-clause-first_scratch_after
-returns-then-refusal-ne0-clause-first_scratch_after c = search first_scratch_kept
+pub returns-in_err-refused-clause-first_scratch_after : goal.returns-in_err-refused-clause-first_scratch_after
+returns-in_err-refused-clause-first_scratch_after c = first_scratch_kept _ _ _ _ _ _ _ _ _ c.in_err-refused.ensures (not_zero _)
 
-pub returns-then-refusal-ne0-clause-second_scratch_after : goal.returns-then-refusal-ne0-clause-second_scratch_after
-returns-then-refusal-ne0-clause-second_scratch_after c = search second_scratch_kept
+pub returns-in_err-refused-clause-second_scratch_after : goal.returns-in_err-refused-clause-second_scratch_after
+returns-in_err-refused-clause-second_scratch_after c = second_scratch_kept _ _ _ _ _ _ _ _ _ c.in_err-refused.ensures (not_zero _)
 
-pub returns-then-refusal-ne0-clause-first_log_after : goal.returns-then-refusal-ne0-clause-first_log_after
-returns-then-refusal-ne0-clause-first_log_after c = search first_log_kept
+pub returns-in_err-refused-clause-first_log_after : goal.returns-in_err-refused-clause-first_log_after
+returns-in_err-refused-clause-first_log_after c = first_log_kept _ _ _ _ _ _ _ _ _ c.in_err-refused.ensures (not_zero _)
 
-pub returns-then-refusal-ne0-clause-second_log_after : goal.returns-then-refusal-ne0-clause-second_log_after
-returns-then-refusal-ne0-clause-second_log_after c = search second_log_kept
+pub returns-in_err-refused-clause-second_log_after : goal.returns-in_err-refused-clause-second_log_after
+returns-in_err-refused-clause-second_log_after c = second_log_kept _ _ _ _ _ _ _ _ _ c.in_err-refused.ensures (not_zero _)
 
 pub run_both-requires : goal.run_both-requires
-run_both-requires c = chain_goes _ _ _ _ _ _ _ _ _ c.refused-refusal.ensures c.if-refusal-ne0.false
+run_both-requires c = sym c.in_ok-refused.ensures

@@ -3,8 +3,8 @@ use Rattle.cippazhey.specs.Export.{no_fault}
 use Rattle.cippazhey.proofs.Reported.{start_told, none_told}
 use Rattle.cippazhey.proofs.cippazhey_screen.Goals as goal
 
-pub returns-in-Start : goal.returns-in-Start
-returns-in-Start c = search start_told
+pub returns-in-Some : goal.returns-in-Some
+returns-in-Some c = search start_told
 
 -- all ones
 pub returns-in-None : goal.returns-in-None

@@ -5,11 +5,11 @@ use Rattle.frame.proofs.refused.Goals as goal
 pub returns-then-random-ne632 : goal.returns-then-random-ne632
 returns-then-random-ne632 c = search at_26
 
-pub returns-in-Start : goal.returns-in-Start
-returns-in-Start c = search at_27
+pub returns-then-is_some : goal.returns-then-is_some
+returns-then-is_some c = search (at_27, c.if-is_some.ensures)
 
 pub returns-then-scratch-lt256 : goal.returns-then-scratch-lt256
-returns-then-scratch-lt256 c = search at_13
+returns-then-scratch-lt256 c = search (at_13, c.if-is_some.ensures)
 
 pub returns : goal.returns
-returns c = search at_none
+returns c = search (at_none, c.if-is_some.ensures)

@@ -19,8 +19,8 @@ returns-then-rows-output_width c = search (at_8, tests)
 pub power-requires : goal.power-requires
 power-requires c = search (width_small, tests)
 
-pub returns-then-any_byte_from : goal.returns-then-any_byte_from
-returns-then-any_byte_from c = search (at_9_row, tests)
+pub returns-then-any_number_from : goal.returns-then-any_number_from
+returns-then-any_number_from c = search (at_9_row, tests)
 
 pub power-requires-2 : goal.power-requires-2
 power-requires-2 c = search output_small
@@ -31,8 +31,8 @@ returns-then-power-constant c = search (at_9_constant, tests)
 pub power-requires-3 : goal.power-requires-3
 power-requires-3 c = search (width_small, tests)
 
-pub returns-then-any_number_from : goal.returns-then-any_number_from
-returns-then-any_number_from c = search (at_10, tests)
+pub returns-then-any_number_from-2 : goal.returns-then-any_number_from-2
+returns-then-any_number_from-2 c = search (at_10, tests)
 
 pub returns : goal.returns
 returns c = search (at_end, tests)

@@ -1,11 +1,6 @@
 -- `log_entries::put` meets its contract. The invariant is `Putting`: the first i entries stand in the log.
-use Prim.Native.Nat.{◌-◌}
-use lib.ListN.{length}
 use Rattle.log_entries.proofs.Putting.{Putting}
 use Rattle.log_entries.proofs.put.Given as goal
 
 abbrev pub invariant-loop-i : goal.invariant-loop-i
 invariant-loop-i l = Putting l.initial.log l.log l.position l.kinds l.values l.i
-
-abbrev pub decreases-loop-i : goal.decreases-loop-i
-decreases-loop-i l = length l.kinds - l.i

@@ -33,14 +33,5 @@ module _ (z to mask : ℕ) (bytes : List ℕ) where
       → length (put_mid z (length bytes - z) bytes (set (from z bytes) to (bit_xor (get_or (from z bytes) to 0) mask))) ≡ length bytes
   long e h = rw (added e h) (length-set bytes to _)
 
-pub bounds-again-to : goal.bounds-again-to
-bounds-again-to c = search inside
-
-pub bounds-again-to-2 : goal.bounds-again-to-2
-bounds-again-to-2 c = search inside
-
-pub shape_of-bytes : goal.shape_of-bytes
-shape_of-bytes c = search long
-
 pub returns : goal.returns
 returns c = search added

@@ -22,9 +22,6 @@ module _ (before after : List ℕ) (to first second : ℕ)
 pub bounds-table-index : goal.bounds-table-index
 bounds-table-index c = search in_table
 
-pub shape_of-bytes : goal.shape_of-bytes
-shape_of-bytes c = search put_long
-
 pub returns : goal.returns
 unfolding masked at ◌⊕◌
 returns c = search put_both

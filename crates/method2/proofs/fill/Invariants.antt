@@ -1,10 +1,6 @@
 -- `method2::fill` meets its contract. The invariant is `Filling`.
-use Prim.Native.Nat.{◌-◌}
 use Rattle.method2.proofs.Filling.{Filling}
 use Rattle.method2.proofs.fill.Given as goal
 
 abbrev pub invariant-loop-a : goal.invariant-loop-a
 invariant-loop-a l = Filling l.case l.table l.initial.scratch l.scratch l.a
-
-abbrev pub decreases-loop-a : goal.decreases-loop-a
-decreases-loop-a l = l.turns - l.a

@@ -2,16 +2,13 @@ use mathlib.Core.Path.{◌≡◌}
 use mathlib.Core.List.{List}
 use Prim.Native.Nat.{ℕ, ◌^◌, ◌≤◌}
 use lib.ListN.{length}
-use Rattle.buffers.proofs.Front.{front_begins, front_turns}
+use Rattle.buffers.proofs.Front.{front_turns}
 use Rattle.method3.proofs.Prepared.{prepared_ends, prepared_compares}
 use Rattle.method3.proofs.prepare.Goals as goal
 
 -- as many bytes as `power` told are there
 room : (size n : ℕ) (scratch : List ℕ) → size ≡ 2 ^ n → 2 ^ n ≤ length scratch → size ≤ length scratch
 room size n scratch s h = rw s h
-
-pub loop-i-init : goal.loop-i-init
-loop-i-init c = search front_begins
 
 pub loop-i-preserved : goal.loop-i-preserved
 loop-i-preserved c = search (front_turns, room)

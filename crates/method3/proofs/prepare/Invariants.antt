@@ -1,10 +1,6 @@
 -- `method3::prepare` meets its contract. The invariant is `Front`.
-use Prim.Native.Nat.{◌-◌}
 use Rattle.buffers.proofs.Front.{Front}
 use Rattle.method3.proofs.prepare.Given as goal
 
 abbrev pub invariant-loop-i : goal.invariant-loop-i
 invariant-loop-i l = Front l.other l.size l.initial.scratch l.scratch l.i
-
-abbrev pub decreases-loop-i : goal.decreases-loop-i
-decreases-loop-i l = l.size - l.i

@@ -1,5 +1,4 @@
 use borrow.Author.Rules.{rules}
-use native.Mathlib.Omega.{arith}
 use Rattle.method3.proofs.Selecting.{selecting_begins, selecting_ends, place_in_scratch, byte_a_register, selecting_put}
 use Rattle.method3.proofs.select.Goals as goal
 
@@ -8,9 +7,6 @@ loop-a-init c = search selecting_begins
 
 pub bounds-scratch-at : goal.bounds-scratch-at
 bounds-scratch-at c = search place_in_scratch
-
-pub overflow_cast-cmp : goal.overflow_cast-cmp
-overflow_cast-cmp c = omega (arith, c.shared_slice_known-in-loop-a-1.given c.place-at.result)
 
 pub put_masked_entry-requires-clause-to_in_bounds : goal.put_masked_entry-requires-clause-to_in_bounds
 put_masked_entry-requires-clause-to_in_bounds c = search (byte_a_register, rules)

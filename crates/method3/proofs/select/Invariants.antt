@@ -1,10 +1,6 @@
 -- `method3::select` meets its contract. The invariant is `Selecting`.
-use Prim.Native.Nat.{◌-◌}
 use Rattle.method3.proofs.Selecting.{Selecting}
 use Rattle.method3.proofs.select.Given as goal
 
 abbrev pub invariant-loop-a : goal.invariant-loop-a
 invariant-loop-a l = Selecting l.case l.table l.registers l.a
-
-abbrev pub decreases-loop-a : goal.decreases-loop-a
-decreases-loop-a l = l.turns - l.a

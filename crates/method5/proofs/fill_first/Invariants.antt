@@ -1,10 +1,6 @@
 -- `method5::fill_first` meets its contract. The invariant is `First`.
-use Prim.Native.Nat.{◌-◌}
 use Rattle.method5.proofs.Copying.{First}
 use Rattle.method5.proofs.fill_first.Given as goal
 
 abbrev pub invariant-loop-a : goal.invariant-loop-a
 invariant-loop-a l = First l.case l.table l.initial.scratch l.scratch l.a
-
-abbrev pub decreases-loop-a : goal.decreases-loop-a
-decreases-loop-a l = l.turns - l.a

@@ -1,10 +1,6 @@
 -- `method5::fill_second` meets its contract. The invariant is `Second`.
-use Prim.Native.Nat.{◌-◌}
 use Rattle.method5.proofs.Copying.{Second}
 use Rattle.method5.proofs.fill_second.Given as goal
 
 abbrev pub invariant-loop-a : goal.invariant-loop-a
 invariant-loop-a l = Second l.case l.initial.scratch l.scratch l.a
-
-abbrev pub decreases-loop-a : goal.decreases-loop-a
-decreases-loop-a l = l.turns - l.a

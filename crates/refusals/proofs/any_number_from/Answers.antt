@@ -1,15 +1,15 @@
-use mathlib.Core.Path.{refl}
-use Rattle.refusals.proofs.Tests.{rest_stops, rest_goes, rest_ends}
+-- `refusals::any_number_from` meets its contract.
+use mathlib.Core.Path.{◌∙◌}
+use borrow.Author.Tests.{tests}
+use lib.Dec.{leb}
+use Rattle.std.proofs.Common.{rules}
+use Rattle.std.proofs.lemmas.Iterator.{YieldsList-from_slice}
+use Rattle.std.proofs.lemmas.Iterator.Search.{any_from_yields_List}
+use Rattle.refusals.proofs.Tests.{any_found}
 use Rattle.refusals.proofs.any_number_from.Goals as goal
 
-pub loop-i-init : goal.loop-i-init
-loop-i-init c = refl
-
-pub returns-then-least-numbers : goal.returns-then-least-numbers
-returns-then-least-numbers c = search rest_stops
-
-pub loop-i-preserved : goal.loop-i-preserved
-loop-i-preserved c = search rest_goes
-
 pub returns : goal.returns
-returns c = search rest_ends
+returns g c =
+    let told = any_from_yields_List (λ x. leb c.args.least (g.T.Number.value x)) _ _ _ c.any.ensures.ran
+    (YieldsList-from_slice c.args.numbers.now cc) (λ x b q k. search (rules, tests)) in
+    told ∙ any_found c.args.least g.T.Number.value c.args.numbers.now

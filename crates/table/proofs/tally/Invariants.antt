@@ -1,10 +1,6 @@
 -- `table::tally` meets its contract. The invariant is `Tallying`: the entries passed are counted and joined.
-use Prim.Native.Nat.{◌-◌}
 use Rattle.table.proofs.Counts.{Tallying}
 use Rattle.table.proofs.tally.Given as goal
 
 abbrev pub invariant-loop-i : goal.invariant-loop-i
 invariant-loop-i l = Tallying l.table l.i l.counts l.joined
-
-abbrev pub decreases-loop-i : goal.decreases-loop-i
-decreases-loop-i l = l.size - l.i

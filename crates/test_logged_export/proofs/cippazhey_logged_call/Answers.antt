@@ -1,6 +1,6 @@
 -- `test_logged_export::cippazhey_logged_call` meets its contract.
 use mathlib.Core.Path.{◌≡◌, ap}
-use Rattle.lookup.specs.declared.Called.{Called}
+use Rattle.lookup.specs.Called.{Called}
 use Rattle.test_logged_export.proofs.cippazhey_logged_call.Goals as goal
 
 same_refusal : {r s : Called} → r ≡ s → r.refusal ≡ s.refusal

@@ -1,19 +1,19 @@
 -- `count_sheet::checks::refused` meets its contract.
 use borrow.Author.Rules.{rules}
+use Rattle.refusals.proofs.Numbers.{not_zero, handed_on}
 use Rattle.count_sheet.proofs.Checking.{input_most, pair_refused, buffers_refused, sheet_refused}
 use Rattle.count_sheet.proofs.checks.refused.Goals as goal
 
-pub returns-then-refusal-ne0 : goal.returns-then-refusal-ne0
-returns-then-refusal-ne0 c = search pair_refused
+pub returns-in_err-refused_pair : goal.returns-in_err-refused_pair
+returns-in_err-refused_pair c = rw (handed_on _ _ c.from_residual.ensures.1) (search (pair_refused, not_zero, c.in_err-refused_pair.ensures))
 
-pub refused_buffers-refusal-requires : goal.refused_buffers-refusal-requires
-refused_buffers-refusal-requires c = search (input_most, rules)
+pub refused_buffers-requires : goal.refused_buffers-requires
+refused_buffers-requires c = search (input_most, c.in_ok-refused_pair.ensures)
 
-pub returns-then-refusal-ne0-2 : goal.returns-then-refusal-ne0-2
-returns-then-refusal-ne0-2 c = search buffers_refused
-
-pub refused_sheet-requires : goal.refused_sheet-requires
-refused_sheet-requires c = search (input_most, rules)
+pub returns-in_err-refused_buffers : goal.returns-in_err-refused_buffers
+returns-in_err-refused_buffers c =
+    rw (handed_on _ _ c.from_residual-in_err-refused_buffers.ensures.1)
+    (search (buffers_refused, not_zero, c.in_ok-refused_pair.ensures, c.in_err-refused_buffers.ensures))
 
 pub returns : goal.returns
-returns c = search sheet_refused
+returns c = search (sheet_refused, c.in_ok-refused_pair.ensures, c.in_ok-refused_buffers.ensures)

@@ -1,14 +1,14 @@
 use Rattle.count_sheet.proofs.Masks.{summed_begins, summed_fits, summed_turns, summed_ends}
 use Rattle.count_sheet.proofs.choices.total.Goals as goal
 
-pub loop-i-init : goal.loop-i-init
-loop-i-init c = search summed_begins
+pub loop-width-init : goal.loop-width-init
+loop-width-init c = search summed_begins
 
 pub overflow_add-sum : goal.overflow_add-sum
 overflow_add-sum c = search summed_fits
 
-pub loop-i-preserved : goal.loop-i-preserved
-loop-i-preserved c = search summed_turns
+pub loop-width-preserved : goal.loop-width-preserved
+loop-width-preserved c = search summed_turns
 
 pub returns : goal.returns
 returns c = search summed_ends

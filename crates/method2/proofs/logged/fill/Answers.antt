@@ -1,4 +1,4 @@
-use Rattle.log_entries.proofs.Logging.{logging_begins, rows_turns, rows_room, rows_ends}
+use Rattle.log_entries.proofs.Logging.{logging_begins, rows_turns, rows_ends}
 use Rattle.method2.proofs.Filling.{filling_begins, filling_turns, filling_in_scratch, filling_ends}
 use Rattle.method2.proofs.Turned.{turn_place, turn_value}
 use Rattle.method2.proofs.logged.fill.Goals as goal
@@ -8,9 +8,6 @@ loop-a-init c = (search filling_begins, search logging_begins)
 
 pub bounds-scratch-to : goal.bounds-scratch-to
 bounds-scratch-to c = search (filling_in_scratch, turn_place)
-
-pub put_turn-requires : goal.put_turn-requires
-put_turn-requires c = search rows_room
 
 pub loop-a-preserved : goal.loop-a-preserved
 loop-a-preserved c = (search (filling_turns, turn_place, turn_value), search rows_turns)

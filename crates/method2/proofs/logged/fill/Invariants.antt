@@ -1,5 +1,4 @@
 -- `method2::logged::fill` meets its contract. The invariant: scratch and log are both those of as many turns.
-use Prim.Native.Nat.{◌-◌}
 use Rattle.log_entries.proofs.Logging.{Logging}
 use Rattle.lookup.specs.Row.{row_entry}
 use Rattle.lookup.specs.Method2.{pass_2}
@@ -9,6 +8,3 @@ use Rattle.method2.proofs.logged.fill.Given as goal
 abbrev pub invariant-loop-a : goal.invariant-loop-a
 invariant-loop-a l =
     Filling l.case l.table l.initial.scratch l.scratch l.a × Logging (row_entry l.case l.table) pass_2 8 l.initial.log l.log l.a
-
-abbrev pub decreases-loop-a : goal.decreases-loop-a
-decreases-loop-a l = l.turns - l.a

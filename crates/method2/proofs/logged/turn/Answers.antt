@@ -2,7 +2,7 @@
 use Rattle.bits.specs.Xor.{◌⊕◌}
 use Rattle.table.specs.Balanced.{at}
 use Rattle.lookup.specs.Row.{masked}
-use Rattle.lookup.proofs.Runs.{in_table, two_byte}
+use Rattle.lookup.proofs.Runs.{in_table}
 use Rattle.method2.proofs.Filling.{from_first, place_byte}
 use Rattle.method2.proofs.logged.turn.Goals as goal
 
@@ -11,9 +11,6 @@ bounds-table-from c = search in_table
 
 pub overflow_cast-result-2 : goal.overflow_cast-result-2
 overflow_cast-result-2 c = search (place_byte, from_first)
-
-pub overflow_cast-result-3 : goal.overflow_cast-result-3
-overflow_cast-result-3 c = search two_byte
 
 pub returns : goal.returns
 unfolding masked at ◌⊕◌

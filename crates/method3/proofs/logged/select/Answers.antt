@@ -1,4 +1,4 @@
-use Rattle.log_entries.proofs.Logging.{logging_begins, rows_turns, rows_room, rows_ends}
+use Rattle.log_entries.proofs.Logging.{logging_begins, rows_turns, rows_ends}
 use Rattle.method3.proofs.Selecting.{selecting_begins, selecting_turns, selecting_ends}
 use Rattle.method3.proofs.Turned.{turn_compared, turn_value, turn_register}
 use Rattle.method3.proofs.logged.select.Goals as goal
@@ -8,9 +8,6 @@ loop-a-init c = (search selecting_begins, search logging_begins)
 
 pub bounds-registers-cmp : goal.bounds-registers-cmp
 bounds-registers-cmp c = search turn_register
-
-pub put_turn-requires : goal.put_turn-requires
-put_turn-requires c = search rows_room
 
 pub loop-a-preserved : goal.loop-a-preserved
 loop-a-preserved c = (search (selecting_turns, turn_compared, turn_value), search rows_turns)

@@ -1,5 +1,4 @@
 -- `method3::logged::select` meets its contract. The invariant: registers and log are both those of as many turns.
-use Prim.Native.Nat.{◌-◌}
 use Rattle.log_entries.proofs.Logging.{Logging}
 use Rattle.lookup.specs.Row.{row_entry}
 use Rattle.lookup.specs.Method3.{pass_3}
@@ -9,6 +8,3 @@ use Rattle.method3.proofs.logged.select.Given as goal
 abbrev pub invariant-loop-a : goal.invariant-loop-a
 invariant-loop-a l =
     Selecting l.case l.table l.registers l.a × Logging (row_entry l.case l.table) pass_3 8 l.initial.log l.log l.a
-
-abbrev pub decreases-loop-a : goal.decreases-loop-a
-decreases-loop-a l = l.turns - l.a

@@ -4,7 +4,7 @@ use Rattle.bits.specs.Xor.{◌⊕◌}
 use Rattle.table.specs.Balanced.{at}
 use Rattle.lookup.specs.Row.{masked}
 use Rattle.lookup.specs.Method3.{place_3}
-use Rattle.lookup.proofs.Runs.{in_table, two_byte, three_byte, four_byte}
+use Rattle.lookup.proofs.Runs.{in_table}
 use Rattle.method3.proofs.Comparing.{in_scratch, byte_is}
 use Rattle.method3.proofs.logged.turn.Goals as goal
 
@@ -14,18 +14,6 @@ bounds-scratch-at c = search in_scratch
 
 pub bounds-table-from : goal.bounds-table-from
 bounds-table-from c = search in_table
-
-pub overflow_cast-result-2 : goal.overflow_cast-result-2
-overflow_cast-result-2 c = search two_byte
-
-pub overflow_cast-result-3 : goal.overflow_cast-result-3
-overflow_cast-result-3 c = search three_byte
-
-pub overflow_cast-result-4 : goal.overflow_cast-result-4
-overflow_cast-result-4 c = search four_byte
-
-pub overflow_cast-result-5 : goal.overflow_cast-result-5
-overflow_cast-result-5 c = search two_byte
 
 pub returns : goal.returns
 unfolding masked at place_3 ◌⊕◌

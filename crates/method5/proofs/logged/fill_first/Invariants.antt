@@ -1,5 +1,4 @@
 -- `method5::logged::fill_first` meets its contract. The invariant: scratch and log are both those of as many turns.
-use Prim.Native.Nat.{◌-◌}
 use Rattle.log_entries.proofs.Logging.{Logging}
 use Rattle.lookup.specs.Row.{row_entry}
 use Rattle.lookup.specs.Method5.{first_pass_5}
@@ -9,6 +8,3 @@ use Rattle.method5.proofs.logged.fill_first.Given as goal
 abbrev pub invariant-loop-a : goal.invariant-loop-a
 invariant-loop-a l =
     First l.case l.table l.initial.scratch l.scratch l.a × Logging (row_entry l.case l.table) first_pass_5 5 l.initial.log l.log l.a
-
-abbrev pub decreases-loop-a : goal.decreases-loop-a
-decreases-loop-a l = l.turns - l.a

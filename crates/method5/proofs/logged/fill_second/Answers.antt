@@ -1,19 +1,10 @@
 use Rattle.log_entries.proofs.Logging.{logging_begins, rows_ends}
-use Rattle.method5.proofs.Copying.{copying_begins, second_half_long, second_place, second_turns, second_ends}
-use Rattle.method5.proofs.Turned.{second_copied, second_shown, second_room, second_logged}
+use Rattle.method5.proofs.Copying.{copying_begins, second_turns, second_ends}
+use Rattle.method5.proofs.Turned.{second_copied, second_shown, second_logged}
 use Rattle.method5.proofs.logged.fill_second.Goals as goal
 
 pub loop-a-init : goal.loop-a-init
 loop-a-init c = (search copying_begins, search logging_begins)
-
-pub second_turn-values-requires-clause-n_in_bounds : goal.second_turn-values-requires-clause-n_in_bounds
-second_turn-values-requires-clause-n_in_bounds c = search second_half_long
-
-pub bounds-scratch-turns : goal.bounds-scratch-turns
-bounds-scratch-turns c = search second_place
-
-pub put_second_turn-requires : goal.put_second_turn-requires
-put_second_turn-requires c = search second_room
 
 pub loop-a-preserved : goal.loop-a-preserved
 loop-a-preserved c = (search (second_turns, second_copied), search (second_logged, second_shown))

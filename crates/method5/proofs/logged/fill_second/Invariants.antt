@@ -1,5 +1,5 @@
 -- `method5::logged::fill_second` meets its contract. The invariant: scratch and log are both those of as many turns.
-use Prim.Native.Nat.{◌+◌, ◌*◌, ◌-◌, ◌^◌}
+use Prim.Native.Nat.{◌+◌, ◌*◌, ◌^◌}
 use Rattle.log_entries.proofs.Logging.{Logging}
 use Rattle.lookup.specs.Row.{row_entry}
 use Rattle.lookup.specs.Method5.{half_pass_5}
@@ -9,6 +9,3 @@ use Rattle.method5.proofs.logged.fill_second.Given as goal
 abbrev pub invariant-loop-a : goal.invariant-loop-a
 invariant-loop-a l =
     Second l.case l.initial.scratch l.scratch l.a × Logging (row_entry l.case l.initial.scratch) half_pass_5 (5 + 4 * 2 ^ l.case.n) l.initial.log l.log l.a
-
-abbrev pub decreases-loop-a : goal.decreases-loop-a
-decreases-loop-a l = l.turns - l.a

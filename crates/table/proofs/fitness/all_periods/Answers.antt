@@ -1,20 +1,13 @@
 use borrow.Author.Tests.{not-true, not-false}
 use Rattle.refusals.proofs.Tests.{told}
-use Rattle.table.proofs.Differences.{power_most, power_fits, difference_byte}
 use Rattle.table.proofs.Differences.{periods_begin, periods_turn, periods_stop, periods_end}
 use Rattle.table.proofs.fitness.all_periods.Goals as goal
 
 -- what the call of `is_period` tells
 ruleset tests = (told, not-true, not-false)
 
-pub overflow_cast-limit : goal.overflow_cast-limit
-overflow_cast-limit c = search power_fits
-
 pub loop-bit-init : goal.loop-bit-init
 loop-bit-init c = search periods_begin
-
-pub is_period-requires : goal.is_period-requires
-is_period-requires c = (search difference_byte, search power_most)
 
 pub returns-then-not-is_period : goal.returns-then-not-is_period
 returns-then-not-is_period c = search (periods_stop, tests)

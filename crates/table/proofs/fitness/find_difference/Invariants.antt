@@ -1,10 +1,9 @@
--- `table::fitness::find_difference` meets its contract. The invariant is `Looking`: no difference passed leads to a value that occurs.
-use Prim.Native.Nat.{◌-◌}
-use Rattle.table.proofs.Differences.{Looking}
+-- `table::fitness::find_difference` meets its contract. The invariant: no difference passed leads from the first entry to a value that occurs.
+use mathlib.Core.Path.{◌≡◌}
+use Prim.Native.Nat.{ℕ, ◌^◌, ◌≤◌, ◌<◌}
+use Rattle.bits.specs.Xor.{◌⊕◌}
+use Rattle.table.specs.Balanced.{at}
 use Rattle.table.proofs.fitness.find_difference.Given as goal
 
 abbrev pub invariant-loop-difference : goal.invariant-loop-difference
-invariant-loop-difference l = Looking l.counts l.first l.bit l.end l.difference
-
-abbrev pub decreases-loop-difference : goal.decreases-loop-difference
-decreases-loop-difference l = l.end - l.difference
+invariant-loop-difference l = (d : ℕ) → 2 ^ l.bit ≤ d → d < l.difference → at l.counts (l.first ⊕ d) ≡ 0
