@@ -11,6 +11,7 @@ use lib.Seq.{take_all, take_at}
 use Rattle.buffers.specs.Written.{in_front}
 use Rattle.std.specs.Prelude.{Option, Some, None}
 use Rattle.case_sheet.specs.declared.Edition.{Edition}
+use Rattle.case_sheet.specs.declared.Sheet.{Sheet}
 use Rattle.lookup.specs.declared.Case.{Case}
 use Rattle.case_sheet.specs.Sheet.{item, before, leading, numbers_of, table_of, complete, well_formed, lines_of}
 use Rattle.case_sheet.specs.Edition.{six_columns}
@@ -171,3 +172,30 @@ module _ (edition : Edition) (told : edition ≡ six_columns) where
     sheet_taken numbers case entries left e m =
         let known = read_formed six_columns 10 input s six_lines m in
         rw (e, known.0, known.1, numbers_read six_columns 10 input (replicate 10 0) numbers refl known.0 (left ∙ rw told))
+
+-- what is known of the bench's sheet where there is one, and where there is none
+module _ {r : Option Sheet} (input : List ℕ) (told : r ≡ sheet_of input) where
+  sheet_there : Sheet
+  sheet_there = record { case = case_read (numbers_of six_columns 10 input); entries = length (table_of six_columns 10 input) }
+
+  pub sheet_missing : r ≡ None → well_formed six_columns 10 input ≡ false
+  unfolding sheet_of sheet_there
+  sheet_missing none = sheet_missing_by_cases (well_formed six_columns 10 input) (sym told ∙ none)
+    where
+      sheet_missing_by_cases : (t : Bool) → cond t (Some sheet_there) None ≡ None → t ≡ false
+      sheet_missing_by_cases false e = refl
+      sheet_missing_by_cases true e = let z : ◌≡◌ {A = ℕ} 0 1 = cc in absurd (omega arith)
+
+  pub sheet_parts : (s : Sheet) → r ≡ Some s
+      → (well_formed six_columns 10 input ≡ true)
+      × (s.case ≡ case_read (numbers_of six_columns 10 input))
+      × (s.entries ≡ length (table_of six_columns 10 input))
+  unfolding sheet_of sheet_there
+  sheet_parts s is = sheet_parts_by_cases (well_formed six_columns 10 input) (sym told ∙ is)
+    where
+      sheet_parts_by_cases : (t : Bool) → cond t (Some sheet_there) None ≡ Some s
+          → (t ≡ true) × (s.case ≡ case_read (numbers_of six_columns 10 input)) × (s.entries ≡ length (table_of six_columns 10 input))
+      sheet_parts_by_cases false e = let z : ◌≡◌ {A = ℕ} 0 1 = cc in absurd (omega arith)
+      sheet_parts_by_cases true e =
+          let same : s ≡ sheet_there = cc in
+          (refl, ap (λ x. x.case) same, ap (λ x. x.entries) same)

@@ -1,32 +1,23 @@
 -- How spaces are printed.
 use mathlib.Core.Path.{◌≡◌, sym}
-use mathlib.Core.List.{List}
-use Prim.Native.Nat.{ℕ, ◌+◌, ◌≤◌, ◌<◌}
+use mathlib.Core.List.{List, append_assoc}
+use Prim.Native.Nat.{ℕ, ◌+◌, ◌-◌, ◌≤◌}
 use native.Mathlib.Omega.{arith}
-use lib.ListN.{length, set, length-replicate, get_or-replicate}
+use lib.ListN.{length, take, drop, replicate, length-replicate, length-drop}
+use lib.Seq.{drop-drop, length-take-le}
 use Rattle.buffers.specs.Written.{written}
-use Rattle.buffers.proofs.Pasting.{Pasting, pasting_begins, pasting_turns, pasting_ends}
+use borrow.Rule.Slice.PartMut.{put_mid}
 use Rattle.log_page.specs.Page.{blanks}
 
 pub blanks_long : (count : ℕ) → length (blanks count) ≡ count
 blanks_long count = length-replicate {A = ℕ} count 32
 
--- the first i of so many spaces stand there
-abbrev pub Spacing : (at count : ℕ) → (before now : List ℕ) → (i : ℕ) → Type 0
-Spacing at count before now i = Pasting before now at (blanks count) i
-
-module _ (at count : ℕ) (before : List ℕ) where
-  pub spacing_begins : Spacing at count before before 0
-  spacing_begins = pasting_begins before at (blanks count)
-
-  module _ (now : List ℕ) (i : ℕ) (room : at + count ≤ length before) (p : Spacing at count before now i) where
-    pub spacing_room : i < count → at + i < length now
-    spacing_room h = omega (arith, p.long)
-
-    pub spacing_turns : i < count → Spacing at count before (set now (at + i) 32) (i + 1)
-    spacing_turns h =
-        pasting_turns before at (blanks count) now i 32 (omega (arith, blanks_long count)) (omega (arith, blanks_long count))
-        (sym (get_or-replicate {A = ℕ} count i 32 0 h)) p
-
-    pub spacing_ends : count ≤ i → now ≡ written before at (blanks count)
-    spacing_ends h = pasting_ends before at (blanks count) now i (omega (arith, blanks_long count)) p
+-- a part of the output filled with spaces
+pub spaces_left : (at count : ℕ) (before part : List ℕ) → at + count ≤ length before
+    → part ≡ replicate (length (take (at + count - at) (drop at before))) 32
+    → put_mid at (at + count - at) before part ≡ written before at (blanks count)
+unfolding written
+spaces_left at count before part room e =
+    let less : at + count - at ≡ count = omega arith in
+    let long : length (take count (drop at before)) ≡ count = length-take-le count (drop at before) (omega (arith, length-drop at before)) in
+    rw (e, less, long, blanks_long count, drop-drop count at before) (sym (append_assoc (take at before) (blanks count) _))

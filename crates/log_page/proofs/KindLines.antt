@@ -6,7 +6,7 @@ use Prim.Native.Nat.{ℕ, zero, suc, ◌+◌, ◌*◌, ◌≤◌, ◌<◌}
 use native.Mathlib.Nat.{add_assoc, add-zero, zero-add}
 use native.Mathlib.Numerals.{add-one}
 use native.Mathlib.Omega.{arith}
-use mir.Syntax.{w32, w64}
+use mir.Syntax.{w32}
 use mir.Val.{Fits}
 use lib.ListN.{length, get_or, set, drop, replicate, length-append, length-map, length-set, length-replicate, get_or-replicate, drop_of_length-le}
 use lib.Seq.{drop-cons}
@@ -38,9 +38,6 @@ unfolding at
 kind_known log i kind known e =
     let below : get_or (map kind_of log) i 0 < 30 = at_below kind_limit (map kind_of log) (omega arith) known i in
     omega (arith, kind_at log i)
-
-pub kind_fits : (log : List ℕ) (i kind : ℕ) → any_from kind_limit (map kind_of log) ≡ false → kind ≡ kind_of (get_or log i 0) → Fits w64 (kind * 4)
-kind_fits log i kind known e = record { fits = omega (arith, kind_known log i kind known e) }
 
 -- the first i entries are counted, and the others still to be
 pub record Counting (log counts : List ℕ) (i : ℕ) : Type 0 where
@@ -189,13 +186,3 @@ module _ (at : ℕ) (log before : List ℕ) where
           long =
               ap length f ∙ written_long now next _ (rw same (omega (arith, s.long, s.place, kinds_most kind log))) ∙ s.long;
         })
-
-    pub listing_long : 30 ≤ kind → next ≡ at + length (kind_lines kind_limit log)
-    listing_long h =
-        let whole : kind ≡ 30 = omega (arith, s.within) in
-        rw whole at s.place
-
-    pub listing_left : 30 ≤ kind → now ≡ written before at (kind_lines kind_limit log)
-    listing_left h =
-        let whole : kind ≡ 30 = omega (arith, s.within) in
-        rw whole at s.listed

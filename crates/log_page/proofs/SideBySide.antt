@@ -1,15 +1,12 @@
 -- How entries are printed side by side, and a line of them.
 use mathlib.Core.Path.{◌≡◌, refl, sym, ap, ◌∙◌}
 use mathlib.Core.List.{List, [], ◌∷◌, ◌++◌}
-use Prim.Native.Nat.{ℕ, ◌+◌, ◌*◌, ◌-◌, ◌^◌, ◌≤◌, ◌<◌}
+use Prim.Native.Nat.{ℕ, ◌+◌, ◌*◌, ◌-◌, ◌≤◌, ◌<◌}
 use native.Mathlib.Omega.{arith}
-use mir.Syntax.{w64}
-use mir.Val.{Fits}
-use lib.ListN.{length, get_or, set, length-append, length-set}
+use lib.ListN.{length, get_or, set, length-append}
 use Rattle.buffers.specs.Written.{written}
 use Rattle.buffers.proofs.Written.{written_more, written_long, set_written}
-use Rattle.buffers.proofs.Blocks.{blocks, numbered_blocks, blocks_long, stacking_ends}
-use Rattle.buffers.proofs.Blocks.{Placing, placing_begins, placing_room, placing_fits, placing_turns}
+use Rattle.buffers.proofs.Blocks.{blocks, numbered_blocks, blocks_long, Stacking, stacking_turns, stacking_ends}
 use Rattle.field.specs.Printed.{printed}
 use Rattle.field.proofs.Printing.{printed_long}
 use Rattle.lookup.specs.Entry.{kind_of, value_of}
@@ -58,32 +55,21 @@ side_long position entries =
     ap length (side_blocks position entries)
     ∙ blocks_long 16 (entry_at position entries) (length entries) (λ i h. entry_long (position + i) (get_or entries i 0))
 
--- the first i entries are printed, up to a position
-abbrev pub Siding : (at position : ℕ) → (entries before now : List ℕ) → (next i : ℕ) → Type 0
-Siding at position entries before now next i = Placing at 16 (length entries) (entry_at position entries) before now next i
+-- the first i entries are printed
+abbrev pub Siding : (at position : ℕ) → (entries before now : List ℕ) → (i : ℕ) → Type 0
+Siding at position entries before now i = Stacking at 16 (length entries) (entry_at position entries) before now i
 
-module _ (at position : ℕ) (entries before : List ℕ) where
-  pub siding_begins : Siding at position entries before before at 0
-  siding_begins = placing_begins at 16 (length entries) (entry_at position entries) before
+module _ (at position : ℕ) (entries before now : List ℕ) (i : ℕ) (s : Siding at position entries before now i) where
+  pub siding_turns : (after : List ℕ) → at + length entries * 16 ≤ length before → i < length entries
+      → after ≡ written now (at + 16 * i) (entry_columns (position + i) (get_or entries i 0))
+      → Siding at position entries before after (i + 1)
+  siding_turns after room h e =
+      stacking_turns at 16 _ (entry_at position entries) before now i s after (at + 16 * i)
+      (λ j l. entry_long (position + j) (get_or entries j 0)) h room (omega arith) e
 
-  module _ (now : List ℕ) (next i : ℕ) (room : at + length entries * 16 ≤ length before)
-      (p : Siding at position entries before now next i) where
-    pub siding_room : i < length entries → next + 16 ≤ length now
-    siding_room h = placing_room at 16 _ (entry_at position entries) before now next i room p h
-
-    pub siding_fits : i < length entries → length before < 2 ^ 64 → Fits w64 (next + 16)
-    siding_fits h l = placing_fits at 16 _ (entry_at position entries) before now next i room p h l
-
-    pub siding_turns : (after : List ℕ) → i < length entries → after ≡ written now next (entry_columns (position + i) (get_or entries i 0))
-        → Siding at position entries before after (next + 16) (i + 1)
-    siding_turns after h e =
-        placing_turns at 16 _ (entry_at position entries) before now next i room p after
-        (λ j l. entry_long (position + j) (get_or entries j 0)) h e
-
-    pub siding_ends : length entries ≤ i → now ≡ written before at (side_by_side position entries)
-    siding_ends h =
-        stacking_ends at 16 _ (entry_at position entries) before now i p.stack h
-        ∙ ap (written before at) (sym (side_blocks position entries))
+  pub siding_ends : length entries ≤ i → now ≡ written before at (side_by_side position entries)
+  siding_ends h =
+      stacking_ends at 16 _ (entry_at position entries) before now i s h ∙ ap (written before at) (sym (side_blocks position entries))
 
 -- A LINE
 -- filled with spaces, and ended by a line feed
@@ -110,7 +96,3 @@ line_left before first second at position entries few room e f =
     let size : length second ≡ length before = ap length pair ∙ written_long before at (line ++ gap) (omega (arith, whole)) in
     set_written second (at + 80) 10 (omega arith)
     ∙ rw pair (written_more before at (at + 80) (line ++ gap) (10 ∷ []) whole (omega arith))
-
-pub line_size : (before first second : List ℕ) (i byte : ℕ) → length first ≡ length before → length second ≡ length first
-    → length (set second i byte) ≡ length before
-line_size before first second i byte e f = length-set second i byte ∙ f ∙ e

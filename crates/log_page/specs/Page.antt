@@ -1,5 +1,5 @@
 -- The wall-cabinet page of a log. Numbers are right-justified in their columns; 32 is a space, and each line is ended by a line feed (10).
-use Rattle.std.specs.Prelude.{◌≡◌, cond, List, [], ◌∷◌, ◌++◌, map, ℕ, zero, suc, ◌+◌, ◌*◌, ◌-◌, ◌/◌, ◌<◌, leb, length, get_or, take, drop, replicate}
+use Rattle.std.specs.Prelude.{◌≡◌, List, [], ◌∷◌, ◌++◌, map, ℕ, zero, suc, ◌+◌, ◌*◌, ◌-◌, ◌/◌, ◌<◌, length, get_or, take, drop, replicate}
 use Rattle.table.specs.Balanced.{count_of}
 use Rattle.field.specs.Printed.{printed}
 use Rattle.lookup.specs.Entry.{kind_of, value_of, kind_limit}
@@ -57,10 +57,6 @@ unfoldable pub page_of : (log : List ℕ) → List ℕ
 page_of log = lines_of_five (lines_needed (length log)) log ++ kind_lines kind_limit log ++ total_line (length log)
 
 -- HOW IT IS PRINTED
--- where the line ends that begins at this position of a log of this size
-unfoldable pub line_end : (first size : ℕ) → ℕ
-line_end first size = cond (leb (first + 5) size) (first + 5) size
-
 -- the counts of the kinds of a log
 pub record KindsCounted (log counts : List ℕ) : Type 0 where
   pub counted : (kind : ℕ) → kind < kind_limit → get_or counts kind 0 ≡ often kind log

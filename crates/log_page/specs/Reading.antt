@@ -1,7 +1,5 @@
 -- How a page is read, from its bytes alone: what its entry lines show, and the figures below them.
-use Rattle.std.specs.Prelude.{Bool, true, false, ◌&&◌, cond, List, [], ◌∷◌, ◌++◌, map, ℕ, zero, suc, ◌+◌, ◌-◌, ◌^◌, eqb, length, take, drop}
-use Rattle.field.specs.declared.Field.{Field}
-use Rattle.field.specs.declared.Field.TheVariants.{Number, Malformed}
+use Rattle.std.specs.Prelude.{Bool, true, false, ◌&&◌, cond, List, [], ◌∷◌, ◌++◌, map, ℕ, zero, suc, ◌+◌, ◌-◌, ◌^◌, eqb, length, take, drop, Option, Some, None}
 use Rattle.field.specs.Field.{field_of}
 use Rattle.lookup.specs.Entry.{entry, kind_of, value_of}
 use Rattle.log_page.specs.Page.{rising}
@@ -37,13 +35,13 @@ blank (byte ∷ bytes) = eqb byte 32 && blank bytes
 -- spaces alone, or a number that takes exactly so many columns, or what is neither
 pub data Cell : Type 0 where
   Blank : Cell
-  Holds : Field → Cell
+  Holds : Option ℕ → Cell
 
 unfoldable pub cell : (columns : ℕ) → (bytes : List ℕ) → Cell
 cell columns bytes = cond (blank bytes) Blank (Holds (field_of columns (10 ^ columns - 1) bytes))
 
 abbrev pub showing : (number : ℕ) → Cell
-showing number = Holds (Number number)
+showing number = Holds (Some number)
 
 -- ENTRIES
 pub record Shown : Type 0 where
@@ -85,8 +83,8 @@ shown_from position (e ∷ log) =
 -- the log of entries that are shown
 unfoldable pub number_of : Cell → ℕ
 number_of Blank = 0
-number_of (Holds (Number number)) = number
-number_of (Holds Malformed) = 0
+number_of (Holds (Some number)) = number
+number_of (Holds None) = 0
 
 unfoldable pub log_shown : (entries : List Shown) → List ℕ
 log_shown entries = map (λ e. entry (number_of e.kind) (number_of e.value)) entries
@@ -94,8 +92,8 @@ log_shown entries = map (λ e. entry (number_of e.kind) (number_of e.value)) ent
 -- a cell that has this number
 unfoldable pub has_number : (number : ℕ) → Cell → Bool
 has_number number Blank = false
-has_number number (Holds (Number value)) = eqb value number
-has_number number (Holds Malformed) = false
+has_number number (Holds (Some value)) = eqb value number
+has_number number (Holds None) = false
 
 -- how many of the entries that are shown have this kind
 unfoldable pub times_shown : (kind : ℕ) → (entries : List Shown) → ℕ

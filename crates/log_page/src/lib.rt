@@ -6,7 +6,7 @@ ghost use Rattle.std.specs.Prelude.{◌≡◌, false, map, ◌+◌, ◌*◌, ◌
 ghost use Rattle.refusals.specs.Tests.{any_from};
 ghost use Rattle.buffers.specs.Written.{written, in_front};
 ghost use Rattle.lookup.specs.Entry.{kind_of, kind_limit};
-ghost use Rattle.log_page.specs.Page.{entry_columns, side_by_side, blanks, filled, lines_of_five, lines_needed, line_end as page_line_end};
+ghost use Rattle.log_page.specs.Page.{entry_columns, side_by_side, blanks, filled, lines_of_five, lines_needed};
 ghost use Rattle.log_page.specs.Page.{kind_line, kind_lines, KindsCounted, total_line, page_of};
 
 // Prints the page in front in the output, and returns the count of its bytes. Five entries take 81 bytes, so n of them at most 17n + 64; below
@@ -30,26 +30,10 @@ fn put_entry_lines(output: &mut [u8], log: &[u32]) -> usize
     ensures output_after { output.new ≡ written output.old 0
         (lines_of_five (lines_needed (length log.now)) log.now) }
 {
-    let lines = (log.len() + 4) / 5;
-    let mut at = 0;
-    let mut first = 0;
-    let mut k = 0;
-    while k < lines {
-        let end = line_end(first, log.len());
-        put_entry_line(output, at, first as u32, &log[first..end]);
-        at += 81;
-        first += 5;
-        k += 1;
+    for (k, entries) in log.chunks(5).enumerate() {
+        put_entry_line(output, 81 * k, 5 * k as u32, entries);
     }
-    at
-}
-
-// A line of five entries, or of those that are left.
-fn line_end(first: usize, size: usize) -> usize
-    requires { first ≤ 2400 }
-    ensures { result ≡ page_line_end first size }
-{
-    if first + 5 <= size { first + 5 } else { size }
+    81 * log.len().div_ceil(5)
 }
 
 // Up to five entries, spaces up to 80 columns, and a line feed.
@@ -67,12 +51,8 @@ fn put_entries(output: &mut [u8], at: usize, position: u32, entries: &[u32])
     requires { (length entries.now ≤ 5) × (position ≤ 2400) × (at + length entries.now * 16 ≤ length output.old) }
     ensures { output.new ≡ written output.old at (side_by_side position entries.now) }
 {
-    let mut next = at;
-    let mut i = 0;
-    while i < entries.len() {
-        put_entry(output, next, position + i as u32, entries[i]);
-        next += 16;
-        i += 1;
+    for (i, entry) in entries.iter().enumerate() {
+        put_entry(output, at + 16 * i, position + i as u32, *entry);
     }
 }
 
@@ -92,11 +72,7 @@ fn put_spaces(output: &mut [u8], at: usize, count: usize)
     requires { at + count ≤ length output.old }
     ensures { output.new ≡ written output.old at (blanks count) }
 {
-    let mut i = 0;
-    while i < count {
-        output[at + i] = b' ';
-        i += 1;
-    }
+    output[at..at + count].fill(b' ');
 }
 
 // A line for each kind that occurs, from a position on. Returns where they end.
@@ -106,13 +82,10 @@ fn put_kind_lines(output: &mut [u8], at: usize, log: &[u32]) -> usize
     ensures value { result ≡ at + length (kind_lines kind_limit log.now) }
     ensures output_after { output.new ≡ written output.old at (kind_lines kind_limit log.now) }
 {
-    let mut counts = [0u32; 30];
-    count_kinds(log, &mut counts);
+    let counts = count_kinds(log);
     let mut next = at;
-    let mut kind = 0;
-    while kind < 30 {
-        next = put_kind(output, next, kind as u32, counts[kind]);
-        kind += 1;
+    for (kind, times) in counts.iter().enumerate() {
+        next = put_kind(output, next, kind as u32, *times);
     }
     next
 }
@@ -131,18 +104,17 @@ fn put_kind(output: &mut [u8], at: usize, kind: u32, times: u32) -> usize
     at + 17
 }
 
-// Counts each kind of the log in counts of zero.
-fn count_kinds(log: &[u32], counts: &mut [u32; 30])
-    requires log_len_bound { (length log.now ≤ 2400) × (counts.old ≡ replicate 30 0) }
+// How often each kind stands in the log.
+fn count_kinds(log: &[u32]) -> [u32; 30]
+    requires log_len_bound { length log.now ≤ 2400 }
     requires log_value { any_from kind_limit (map kind_of log.now) ≡ false }
-    ensures { KindsCounted log.now counts.new }
+    ensures { KindsCounted log.now result }
 {
-    let mut i = 0;
-    while i < log.len() {
-        let kind = log_entries::kind(log[i]) as usize;
-        counts[kind] += 1;
-        i += 1;
+    let mut counts = [0u32; 30];
+    for entry in log {
+        counts[log_entries::kind(*entry) as usize] += 1;
     }
+    counts
 }
 
 // Six spaces and the total.

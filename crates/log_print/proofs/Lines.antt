@@ -64,6 +64,6 @@ module _ (columns at : ℕ) (numbers before : List ℕ) (room : at + length numb
 pub refusal_long : (x : ℕ) → 7 ≡ length (line_of 6 (x ∷ []))
 refusal_long x = sym (line_long 6 (x ∷ []))
 
-pub refusal_left : (before now : List ℕ) (x : ℕ) → now ≡ written before 0 (line_of 6 (x ∷ []))
+pub refusal_left : (before now : List ℕ) (x number : ℕ) → number ≡ x → now ≡ written before 0 (line_of 6 (number ∷ []))
     → now ≡ in_front (line_of 6 (x ∷ [])) before
-refusal_left before now x e = e ∙ written_front before _
+refusal_left before now x number same e = e ∙ rw same (written_front before _)

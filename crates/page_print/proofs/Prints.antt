@@ -9,7 +9,6 @@ use lib.ListN.{length, take}
 use Rattle.refusals.specs.Tests.{outside, any_from}
 use Rattle.refusals.proofs.Tests.{inside, one_below, none_below}
 use Rattle.table.specs.Balanced.{count_of}
-use Rattle.lookup.specs.Called.{Called}
 use Rattle.lookup.specs.Entry.{kind_of, kind_limit}
 use Rattle.lookup.specs.Promises.{KindsKnown}
 use Rattle.lookup.proofs.Each.{Each, none as no_element, more}
@@ -45,12 +44,13 @@ module _ (input : List ℕ) (e : sheet_refusal six_columns input ≡ 0) where
   unfolding often
   kinds_above = above_0 known
 
-module _ (input : List ℕ) (x : Called) (told : x ≡ reply input) (z : x.refusal ≡ 0) (lent now : List ℕ) (left_is : now ≡ log_left input lent) where
-  pub page_room : (output : List ℕ) → length output ≡ 40960 → 17 * length (take x.count now) + 600 ≤ length output
-  page_room output h = omega (arith, entries_lent input x told z lent now left_is, few input x told z)
+module _ (input : List ℕ) (s n : ℕ) (told : record { refusal = 0; share = s; count = n } ≡ reply input) (lent now : List ℕ)
+    (left_is : now ≡ log_left input lent) where
+  pub page_room : (output : List ℕ) → length output ≡ 40960 → 17 * length (take n now) + 600 ≤ length output
+  page_room output h = omega (arith, entries_lent input s n told lent now left_is, few input s n told)
 
-  pub kinds_lent : any_from kind_limit (map kind_of (take x.count now)) ≡ false
-  kinds_lent = rw (entries input x told z lent now left_is) (kinds_below input (none input x told z) kind_limit (omega arith))
+  pub kinds_lent : any_from kind_limit (map kind_of (take n now)) ≡ false
+  kinds_lent = rw (entries input s n told lent now left_is) (kinds_below input (none input s n told) kind_limit (omega arith))
 
-  pub paged : page_of (take x.count now) ≡ page_of (sheet_log six_columns input)
-  paged = rw (entries input x told z lent now left_is)
+  pub paged : page_of (take n now) ≡ page_of (sheet_log six_columns input)
+  paged = rw (entries input s n told lent now left_is)

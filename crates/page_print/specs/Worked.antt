@@ -1,5 +1,5 @@
 -- A page as it looks: that of P1, method 2 at n = m = 1 with the table 1, 0.
-use Rattle.std.specs.Prelude.{◌≡◌, List, [], ◌∷◌, ℕ}
+use Rattle.std.specs.Prelude.{◌≡◌, List, [], ◌∷◌}
 use Prim.Native.String.{String}
 use Rattle.log_page.specs.Text.{text}
 use Rattle.page_print.specs.Print.{page}

@@ -12,10 +12,8 @@ pub fn print(input: &[u8], output: &mut [u8; 40960]) -> usize
     ensures output_after { output.new ≡ in_front (page input.now) output.old }
 {
     let mut log = [0u32; 2400];
-    let called = sheet_call::answer(input, &mut log);
-    if called.refusal != 0 {
-        return log_print::put_refusal(output, called.refusal);
+    match sheet_call::answer(input, &mut log) {
+        Ok(answered) => log_page::put_page(output, &log[..answered.count as usize]),
+        Err(refusal) => log_print::put_refusal(output, refusal),
     }
-    let count = called.count as usize;
-    log_page::put_page(output, &log[..count])
 }

@@ -4,29 +4,34 @@ use mathlib.Core.List.{List, [], ◌∷◌}
 use Prim.Native.Nat.{ℕ}
 use lib.ListN.{length}
 use Rattle.buffers.specs.Written.{in_front}
-use Rattle.lookup.specs.Called.{Called}
+use Rattle.refusals.specs.declared.Refusal.{Refusal}
+use Rattle.refusals.specs.Numbers.{number_of}
+use Rattle.refusals.proofs.Numbers.{not_zero}
 use Rattle.case_sheet.specs.Edition.{six_columns}
 use Rattle.log_print.specs.Lines.{line_of, unless_refused}
 use Rattle.log_print.proofs.Refused.{number_alone, nothing_refused}
 use Rattle.sheet_call.specs.Call.{sheet_refusal, reply}
-use Rattle.sheet_call.proofs.Replies.{number, none}
+use Rattle.sheet_call.proofs.Replies.{refused_number, none}
 
-module _ (input : List ℕ) (x : Called) (told : x ≡ reply input) (lines : List ℕ) where
-  refused : (x.refusal ≡ 0 → ⊥) → line_of 6 (x.refusal ∷ []) ≡ unless_refused 6 (sheet_refusal six_columns input) lines
-  refused h = number_alone 6 x.refusal lines h ∙ ap (λ k. unless_refused 6 k lines) (number input x told)
+module _ (input lines : List ℕ) where
+  module _ (refusal : Refusal) (told : record { refusal = number_of refusal; share = 0; count = 0 } ≡ reply input) where
+    refused : line_of 6 (number_of refusal ∷ []) ≡ unless_refused 6 (sheet_refusal six_columns input) lines
+    refused =
+        number_alone 6 (number_of refusal) lines (not_zero refusal)
+        ∙ ap (λ k. unless_refused 6 k lines) (refused_number input (number_of refusal) told)
 
-  pub refused_long : {k : ℕ} → (x.refusal ≡ 0 → ⊥) → k ≡ length (line_of 6 (x.refusal ∷ []))
-      → k ≡ length (unless_refused 6 (sheet_refusal six_columns input) lines)
-  refused_long h e = e ∙ ap length (refused h)
+    pub refused_long : {k : ℕ} → k ≡ length (line_of 6 (number_of refusal ∷ []))
+        → k ≡ length (unless_refused 6 (sheet_refusal six_columns input) lines)
+    refused_long e = e ∙ ap length refused
 
-  pub refused_left : (before now : List ℕ) → (x.refusal ≡ 0 → ⊥) → now ≡ in_front (line_of 6 (x.refusal ∷ [])) before
-      → now ≡ in_front (unless_refused 6 (sheet_refusal six_columns input) lines) before
-  refused_left before now h e = e ∙ ap (λ l. in_front l before) (refused h)
+    pub refused_left : (before now : List ℕ) → now ≡ in_front (line_of 6 (number_of refusal ∷ [])) before
+        → now ≡ in_front (unless_refused 6 (sheet_refusal six_columns input) lines) before
+    refused_left before now e = e ∙ ap (λ l. in_front l before) refused
 
   -- what was made of the log that was left is what should be made of the log
-  module _ (z : x.refusal ≡ 0) (made : List ℕ) (same : made ≡ lines) where
+  module _ (s n : ℕ) (told : record { refusal = 0; share = s; count = n } ≡ reply input) (made : List ℕ) (same : made ≡ lines) where
     accepted : made ≡ unless_refused 6 (sheet_refusal six_columns input) lines
-    accepted = same ∙ sym (nothing_refused 6 (sheet_refusal six_columns input) lines (none input x told z))
+    accepted = same ∙ sym (nothing_refused 6 (sheet_refusal six_columns input) lines (none input s n told))
 
     pub accepted_long : {k : ℕ} → k ≡ length made → k ≡ length (unless_refused 6 (sheet_refusal six_columns input) lines)
     accepted_long e = e ∙ ap length accepted

@@ -9,7 +9,6 @@ use lib.Seq.{take_at}
 use Rattle.buffers.specs.Written.{in_front}
 use Rattle.refusals.specs.Left.{left}
 use Rattle.lookup.specs.declared.Case.{Case}
-use Rattle.lookup.specs.Called.{Called}
 use Rattle.lookup.specs.Call.{log_length, scratch_length}
 use Rattle.lookup.specs.Refusals.{case_refusal}
 use Rattle.lookup.specs.Promises.{LogLong}
@@ -46,42 +45,44 @@ taken edition input e = taken_by_cases (well_formed edition 10 input) e
     taken_by_cases true e = (refl, e)
     taken_by_cases false e = absurd (omega arith)
 
-module _ (input : List ℕ) (x : Called) (told : x ≡ reply input) where
-  pub number : x.refusal ≡ sheet_refusal six_columns input
+-- what is told of a refused sheet is its number
+pub refused_number : (input : List ℕ) (k : ℕ) → record { refusal = k; share = 0; count = 0 } ≡ reply input → k ≡ sheet_refusal six_columns input
+unfolding reply
+refused_number input k told = ap (λ y. y.refusal) told ∙ called_number (sheet_refusal six_columns input) _ _
+
+-- of an accepted one, its answer share and its count
+module _ (input : List ℕ) (s n : ℕ) (told : record { refusal = 0; share = s; count = n } ≡ reply input) where
+  pub none : sheet_refusal six_columns input ≡ 0
   unfolding reply
-  number = ap (λ y. y.refusal) told ∙ called_number (sheet_refusal six_columns input) _ _
+  none = sym (ap (λ y. y.refusal) told ∙ called_number (sheet_refusal six_columns input) _ _)
 
-  module _ (z : x.refusal ≡ 0) where
-    pub none : sheet_refusal six_columns input ≡ 0
-    none = sym number ∙ z
+  pub share : s ≡ sheet_answer six_columns input
+  unfolding reply called
+  share = ap (λ y. y.share) told ∙ rw none
 
-    pub share : x.share ≡ sheet_answer six_columns input
-    unfolding reply called
-    share = ap (λ y. y.share) told ∙ rw none
+  pub count : n ≡ sheet_count six_columns input
+  unfolding reply called
+  count = ap (λ y. y.count) told ∙ rw none
 
-    pub count : x.count ≡ sheet_count six_columns input
-    unfolding reply called
-    count = ap (λ y. y.count) told ∙ rw none
+  long : length (sheet_log six_columns input) ≡ n
+  unfolding LogLong sheet_log sheet_count
+  long = (log_long (table_of six_columns 10 input) (sheet_case six_columns input) (taken six_columns input none).1).0 ∙ sym count
 
-    long : length (sheet_log six_columns input) ≡ x.count
-    unfolding LogLong sheet_log sheet_count
-    long = (log_long (table_of six_columns 10 input) (sheet_case six_columns input) (taken six_columns input none).1).0 ∙ sym count
+  pub few : n ≤ 2314
+  unfolding sheet_count
+  few = rw count (log_small (sheet_case six_columns input) (table_of six_columns 10 input) (taken six_columns input none).1)
 
-    pub few : x.count ≤ 2314
-    unfolding sheet_count
-    few = rw count (log_small (sheet_case six_columns input) (table_of six_columns 10 input) (taken six_columns input none).1)
+  module _ (lent now : List ℕ) (left_is : now ≡ log_left input lent) where
+    -- the entries in front are the log
+    pub entries : take n now ≡ sheet_log six_columns input
+    unfolding log_left left in_front
+    entries = rw (left_is, none) (take_at (sheet_log six_columns input) _ n long)
 
-    module _ (lent now : List ℕ) (left_is : now ≡ log_left input lent) where
-      -- the entries in front are the log
-      pub entries : take x.count now ≡ sheet_log six_columns input
-      unfolding log_left left in_front
-      entries = rw (left_is, none) (take_at (sheet_log six_columns input) _ x.count long)
+    pub entries_lent : n ≡ length (take n now)
+    entries_lent = sym (ap length entries ∙ long)
 
-      pub entries_lent : x.count ≡ length (take x.count now)
-      entries_lent = sym (ap length entries ∙ long)
+    pub count_within : n ≤ length now
+    count_within = omega (arith, entries_lent, length-take n now)
 
-      pub count_within : x.count ≤ length now
-      count_within = omega (arith, entries_lent, length-take x.count now)
-
-      pub few_lent : length (take x.count now) ≤ 2400
-      few_lent = omega (arith, entries_lent, few)
+    pub few_lent : length (take n now) ≤ 2400
+    few_lent = omega (arith, entries_lent, few)

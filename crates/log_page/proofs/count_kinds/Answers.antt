@@ -1,11 +1,10 @@
-use Rattle.log_page.proofs.KindLines.{kind_known, kind_fits, counting_begins, counter_fits, counting_turns, counting_ends}
+-- `log_page::count_kinds` meets its contract.
+use mathlib.Core.Path.{refl}
+use Rattle.log_page.proofs.KindLines.{kind_known, counting_begins, counter_fits, counting_turns, counting_ends}
 use Rattle.log_page.proofs.count_kinds.Goals as goal
 
-pub loop-i-init : goal.loop-i-init
-loop-i-init c = search counting_begins
-
-pub offset_bounds-counts-kind : goal.offset_bounds-counts-kind
-offset_bounds-counts-kind c = search kind_fits
+pub loop-entry-init : goal.loop-entry-init
+loop-entry-init c = counting_begins _ _ refl
 
 pub bounds-counts-kind : goal.bounds-counts-kind
 bounds-counts-kind c = search kind_known
@@ -13,11 +12,11 @@ bounds-counts-kind c = search kind_known
 pub overflow_add-counts : goal.overflow_add-counts
 overflow_add-counts c = search counter_fits
 
-pub bounds-counts-kind-in-loop-i : goal.bounds-counts-kind-in-loop-i
-bounds-counts-kind-in-loop-i c = search kind_known
+pub bounds-counts-kind-in-loop-entry : goal.bounds-counts-kind-in-loop-entry
+bounds-counts-kind-in-loop-entry c = search kind_known
 
-pub loop-i-preserved : goal.loop-i-preserved
-loop-i-preserved c = search counting_turns
+pub loop-entry-preserved : goal.loop-entry-preserved
+loop-entry-preserved c = search counting_turns
 
 pub returns : goal.returns
 returns c = search counting_ends

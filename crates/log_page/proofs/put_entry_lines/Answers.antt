@@ -1,33 +1,19 @@
-use Rattle.log_page.proofs.FiveALine.{lined_begins, first_most, next_fits, line_room, part_few, end_above, end_within}
-use Rattle.log_page.proofs.FiveALine.{lined_turns, lined_long, lined_left}
+-- `log_page::put_entry_lines` meets its contract.
+use Rattle.std.proofs.Common.{rules}
+use Rattle.log_page.proofs.FiveALine.{lined_begins, lined_turns, lined_left, lined_long}
 use Rattle.log_page.proofs.put_entry_lines.Goals as goal
 
 pub loop-k-init : goal.loop-k-init
-loop-k-init c = search lined_begins
-
-pub line_end-end-requires : goal.line_end-end-requires
-line_end-end-requires c = search first_most
-
-pub slice_bounds-put_entry_line-count : goal.slice_bounds-put_entry_line-count
-slice_bounds-put_entry_line-count c = search end_above
-
-pub slice_bounds-put_entry_line-start : goal.slice_bounds-put_entry_line-start
-slice_bounds-put_entry_line-start c = search end_above
-
-pub slice_bounds-put_entry_line-end : goal.slice_bounds-put_entry_line-end
-slice_bounds-put_entry_line-end c = search end_within
-
-pub put_entry_line-requires : goal.put_entry_line-requires
-put_entry_line-requires c = (search part_few, search first_most, search line_room)
-
-pub overflow_add-at : goal.overflow_add-at
-overflow_add-at c = search next_fits
+loop-k-init c = search (rules, lined_begins)
 
 pub loop-k-preserved : goal.loop-k-preserved
-loop-k-preserved c = search lined_turns
+loop-k-preserved c =
+    let step = c.in-Some.ensures.steps in
+    lined_turns _ _ _ _ _ _ c.loop-k.invariant _ _ _ _ _ _ c.requires.1 step.0.1.0 step.0.1.1 step.0.1.2 step.0.0 step.1 step.2
+    c.put_entry_line.ensures
 
 pub returns-clause-value : goal.returns-clause-value
 returns-clause-value c = search lined_long
 
 pub returns-clause-output_after : goal.returns-clause-output_after
-returns-clause-output_after c = search lined_left
+returns-clause-output_after c = lined_left _ _ _ _ _ _ c.loop-k.invariant c.in-None.ensures.steps.0.1.0

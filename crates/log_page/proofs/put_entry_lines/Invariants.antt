@@ -1,10 +1,10 @@
 -- `log_page::put_entry_lines` meets its contract. The invariant is `Lined`.
-use Prim.Native.Nat.{◌-◌}
+use Rattle.std.specs.Iterator.Adapters.{enumerate_source, enumerate_count}
+use Rattle.std.specs.Slice.Iter.{chunks_rest, chunks_size}
 use Rattle.log_page.proofs.FiveALine.{Lined}
 use Rattle.log_page.proofs.put_entry_lines.Given as goal
 
 abbrev pub invariant-loop-k : goal.invariant-loop-k
-invariant-loop-k l = Lined l.log l.initial.output l.output l.at l.first l.k
-
-abbrev pub decreases-loop-k : goal.decreases-loop-k
-decreases-loop-k l = l.lines - l.k
+invariant-loop-k l =
+    let chunks = enumerate_source l.k-iterator in
+    Lined l.log l.initial.output l.output (chunks_rest chunks) (chunks_size chunks) (enumerate_count l.k-iterator)

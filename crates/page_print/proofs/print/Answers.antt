@@ -5,34 +5,30 @@ use Rattle.page_print.specs.Print.{page}
 use Rattle.page_print.proofs.Prints.{page_room, kinds_lent, paged}
 use Rattle.page_print.proofs.print.Goals as goal
 
-pub returns-then-called-ne0-clause-value : goal.returns-then-called-ne0-clause-value
-unfolding page
-returns-then-called-ne0-clause-value c = search refused_long
-
-pub returns-then-called-ne0-clause-output_after : goal.returns-then-called-ne0-clause-output_after
-unfolding page
-returns-then-called-ne0-clause-output_after c = search refused_left
-
 pub slice_bounds-log-end : goal.slice_bounds-log-end
-unfolding page
-slice_bounds-log-end c = search count_within
+slice_bounds-log-end c = search (count_within, c.in-Ok.ensures.value)
 
-pub slice_bounds-put_page-end-2 : goal.slice_bounds-put_page-end-2
-unfolding page
-slice_bounds-put_page-end-2 c = search entries_lent
+pub slice_bounds-put_page-end-in-Ok : goal.slice_bounds-put_page-end-in-Ok
+slice_bounds-put_page-end-in-Ok c = search (entries_lent, c.in-Ok.ensures.value)
 
 pub put_page-requires-clause-log_len_bound : goal.put_page-requires-clause-log_len_bound
-unfolding page
-put_page-requires-clause-log_len_bound c = (search few_lent, search page_room)
+put_page-requires-clause-log_len_bound c = (search (few_lent, c.in-Ok.ensures.value), search (page_room, c.in-Ok.ensures.value))
 
 pub put_page-requires-clause-log_value : goal.put_page-requires-clause-log_value
-unfolding page
-put_page-requires-clause-log_value c = search kinds_lent
+put_page-requires-clause-log_value c = search (kinds_lent, c.in-Ok.ensures.value)
 
-pub returns-clause-value : goal.returns-clause-value
+pub returns-in-Ok-clause-value : goal.returns-in-Ok-clause-value
 unfolding page
-returns-clause-value c = search (accepted_long, paged)
+returns-in-Ok-clause-value c = search (accepted_long, paged, c.in-Ok.ensures.value)
 
-pub returns-clause-output_after : goal.returns-clause-output_after
+pub returns-in-Ok-clause-output_after : goal.returns-in-Ok-clause-output_after
 unfolding page
-returns-clause-output_after c = search (accepted_left, paged)
+returns-in-Ok-clause-output_after c = search (accepted_left, paged, c.in-Ok.ensures.value)
+
+pub returns-in-Err-clause-value : goal.returns-in-Err-clause-value
+unfolding page
+returns-in-Err-clause-value c = search (refused_long, c.in-Err.ensures.value)
+
+pub returns-in-Err-clause-output_after : goal.returns-in-Err-clause-output_after
+unfolding page
+returns-in-Err-clause-output_after c = search (refused_left, c.in-Err.ensures.value)

@@ -1,28 +1,30 @@
 -- `sheet_call::answer` meets its contract.
-use Rattle.sheet_call.proofs.Answers.{entries_lent, entries_within, refused_told, refused_left, not_wide, bytes_room}
-use Rattle.sheet_call.proofs.Answers.{bytes_lent, bytes_within, answer_told, answer_left}
+use Rattle.refusals.proofs.Numbers.{not_zero, handed_on}
+use Rattle.sheet_call.proofs.Answers.{malformed_told, malformed_left, entries_lent, entries_within, refused_told, refused_left}
+use Rattle.sheet_call.proofs.Answers.{not_wide, bytes_room, bytes_lent, bytes_within, answer_told, answer_left}
 use Rattle.sheet_call.proofs.answer.Goals as goal
+
+pub returns-in_default-clause-value : goal.returns-in_default-clause-value
+returns-in_default-clause-value c = search malformed_told
+
+pub returns-in_default-clause-log_after : goal.returns-in_default-clause-log_after
+returns-in_default-clause-log_after c = search malformed_left
 
 pub slice_bounds-table-end : goal.slice_bounds-table-end
 slice_bounds-table-end c = search entries_within
 
-pub slice_bounds-wide_refusal-end : goal.slice_bounds-wide_refusal-end
-slice_bounds-wide_refusal-end c = search entries_lent
-
-pub returns-then-refusal-ne0-clause-value : goal.returns-then-refusal-ne0-clause-value
-returns-then-refusal-ne0-clause-value c = search refused_told
-
-pub returns-then-refusal-ne0-clause-log_after : goal.returns-then-refusal-ne0-clause-log_after
-returns-then-refusal-ne0-clause-log_after c = search refused_left
-
 pub slice_bounds-table-end-2 : goal.slice_bounds-table-end-2
-slice_bounds-table-end-2 c = search entries_within
+slice_bounds-table-end-2 c = search entries_lent
 
-pub slice_bounds-narrow-end : goal.slice_bounds-narrow-end
-slice_bounds-narrow-end c = search entries_lent
+pub returns-in_err-wide_refusal-clause-value : goal.returns-in_err-wide_refusal-clause-value
+returns-in_err-wide_refusal-clause-value c =
+    rw (handed_on _ _ c.from_residual.ensures.1) (search (refused_told, c.in_err-wide_refusal.ensures, not_zero))
+
+pub returns-in_err-wide_refusal-clause-log_after : goal.returns-in_err-wide_refusal-clause-log_after
+returns-in_err-wide_refusal-clause-log_after c = search (refused_left, c.in_err-wide_refusal.ensures, not_zero)
 
 pub narrow-requires : goal.narrow-requires
-narrow-requires c = (search not_wide, search bytes_room)
+narrow-requires c = (search (not_wide, c.in_ok-wide_refusal.ensures), search bytes_room)
 
 pub slice_bounds-bytes-end : goal.slice_bounds-bytes-end
 slice_bounds-bytes-end c = search bytes_within
