@@ -29,8 +29,6 @@ OVER_TABLES = {
 OTHERS = {
     "table::fitness::all_periods": "the bits of a value",
     "log_entries::put": "the kinds and values of a row, slices of any length",
-    "refusals::any_byte_from": "bytes of any length, in no archive",
-    "refusals::any_number_from": "numbers of any length, in no archive",
     "frame_rounds::ten": "the rounds",
     "screening::fed": "a run of any length",
 }
@@ -38,8 +36,14 @@ OTHERS = {
 # What is called of the kit's own library, whose code is not read, and what its loop goes over.
 OF_CORE = {
     "core::slice::edits::slice+T::fill": "a buffer of any length",
+    "core::iter::base::Iterator::any": "numbers of any length, in no archive",
+    "core::fmt::formatter::Formatter::derived_name": "the name of a refusal, in no archive",
+    "core::iter::slices::slice+T::iter": "nothing: it has no loop",
+    "core::convert::U32FromU8::from": "nothing: it has no loop",
     "core::option::Option::is_some": "nothing: it has no loop",
     "core::option::Option::unwrap": "nothing: it has no loop",
+    "core::result::ResultTry::branch": "nothing: it has no loop",
+    "core::result::ResultFromResidualErrResidual::from_residual": "nothing: it has no loop",
 }
 
 

@@ -28,7 +28,7 @@ pub struct Second {
 }
 
 // What an accepted chain hands back: the second call's answer share, and the counts of both logs' entries.
-#[derive(Clone, Copy, Debug, PartialEq, Eq)]
+#[derive(Clone, Copy)]
 pub struct ChainAnswered {
     pub share: u32,
     pub first_count: u32,

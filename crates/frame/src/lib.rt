@@ -11,7 +11,7 @@ ghost use Rattle.frame.specs.Frame.{frame_refusal, flat as frame_flat, frame_rep
 use refusals::Refusal;
 
 // What an accepted frame hands back: the bytes of the ciphertext's three shares, column by column.
-#[derive(Clone, Copy, Debug, PartialEq, Eq)]
+#[derive(Clone, Copy)]
 pub struct Ciphertext {
     pub share1: [u8; 16],
     pub share2: [u8; 16],

@@ -21,7 +21,7 @@ pub struct Case {
 }
 
 // What an accepted call hands back: the answer share, and the count of log entries.
-#[derive(Clone, Copy, Debug, PartialEq, Eq)]
+#[derive(Clone, Copy)]
 pub struct Answered {
     pub share: u32,
     pub count: u32,

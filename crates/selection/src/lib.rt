@@ -14,7 +14,7 @@ use halves::Selection;
 use refusals::Refusal;
 
 // What an accepted call hands back: the three shares of the half, and the count of log entries.
-#[derive(Clone, Copy, Debug, PartialEq, Eq)]
+#[derive(Clone, Copy)]
 pub struct HalfShares {
     pub first: u32,
     pub second: u32,

@@ -7,7 +7,7 @@ ghost use Rattle.shares.specs.Shares.{width_refusal as shares_width_refusal, han
 
 use refusals::Refusal;
 
-#[derive(Clone, Copy, Debug, PartialEq, Eq)]
+#[derive(Clone, Copy)]
 pub struct Shares {
     pub first: u32,
     pub second: u32,
