@@ -41,7 +41,7 @@ choice_taken l z c r least most hz hc inside =
 pub choices_accepted : ChoicesAccepted
 unfolding ChoicesAccepted
 choices_accepted lent l z c choice least most hz hc inside room =
-    sym (at_none _ lent 0 (sym (choice_taken l z c choice least most hz hc inside)) refl room)
+    sym (at_none _ lent (sym (choice_taken l z c choice least most hz hc inside)) room)
 
 pub select_counted : SelectCounted
 unfolding SelectCounted select_count selection_count shows value_at LentLogCounted ChoicesAccepted
@@ -56,7 +56,7 @@ kept : (lent : List ℕ) (l z c : ℕ) (choice : ℕ → ℕ) → 1 ≤ l → l 
     → length lent < 28 → select_log (chosen_selection l z c choice) lent ≡ lent
 unfolding select_log
 kept lent l z c choice least most hz hc inside short =
-    let refused = at_14 _ lent 0 (sym (choice_taken l z c choice least most hz hc inside)) refl short in
+    let refused = at_14 _ lent (sym (choice_taken l z c choice least most hz hc inside)) short in
     sym (left_refused 14 _ _ lent refused (λ e. absurd (omega (arith, e))))
 
 short_counts : (lent : List ℕ) (l z z' c c' i j u v : ℕ) → 1 ≤ l → l ≤ 8 → z < 2 ^ (2 * l) → z' < 2 ^ (2 * l) → c < 2 → c' < 2
