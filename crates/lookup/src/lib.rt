@@ -6,6 +6,10 @@ ghost use Rattle.bits.specs.Xor.{◌⊕◌};
 ghost use Rattle.lookup.specs.Bounded.{Bounded};
 ghost use Rattle.lookup.specs.Row.{masked};
 
+mod bounded;
+
+pub use bounded::Lookup;
+
 #[derive(Clone, Copy)]
 pub struct Case {
     pub method: u32,

@@ -9,7 +9,7 @@ ghost use Rattle.lookup.specs.Row.{kinds, values as row_values, row_entry};
 ghost use Rattle.lookup.specs.Method2.{scratch_2, answer_2, head_2, pass_2, end_2, method_2};
 
 use crate::parts::PARTS;
-use lookup::Case;
+use lookup::{Case, Lookup};
 
 // The calls have checked the case and measured the buffers, so it has a `requires`, and so have its parts.
 pub fn run(case: Case, table: &[u8], scratch: &mut [u8], log: &mut [u32]) -> u8
@@ -22,28 +22,28 @@ pub fn run(case: Case, table: &[u8], scratch: &mut [u8], log: &mut [u32]) -> u8
     ensures log_after { log.new ≡ in_front (lines (row_entry case table.now) (Q case) method_2.layout)
         log.old }
 {
-    put_first(case, log);
-    fill(case, table, scratch, log);
-    put_last(case, scratch, log)
+    let lookup = Lookup { case, table };
+    put_first(lookup, log);
+    fill(lookup, scratch, log);
+    put_last(lookup, scratch, log)
 }
 
-fn put_first(case: Case, log: &mut [u32])
-    requires bounded { Bounded case }
+fn put_first(lookup: Lookup, log: &mut [u32])
     requires head_2_in_bounds { length head_2 ≤ length log.old }
-    ensures { log.new ≡ written log.old 0 (entries (kinds head_2) (row_values case [] 0 head_2)) }
+    ensures { log.new ≡ written log.old 0 (entries (kinds head_2) (row_values lookup.entry.case [] 0 head_2)) }
 {
-    PARTS.put_head(log, head(case));
+    PARTS.put_head(log, head(lookup));
 }
 
 // The answer is read from the filled scratch.
-fn put_last(case: Case, scratch: &[u8], log: &mut [u32]) -> u8
-    requires bounded { Bounded case }
-    requires n_in_bounds { 2 ^ case.n ≤ length scratch.now }
-    requires layout_in_bounds { layout_size (2 ^ case.n) method_2.layout ≤ length log.old }
-    ensures value { result ≡ get_or scratch.now case.r3 0 }
-    ensures log_after { log.new ≡ written log.old (length head_2 + length pass_2 * 2 ^ case.n)
-        (entries (kinds end_2) (case.r3 ∷ get_or scratch.now case.r3 0 ∷ [])) }
+fn put_last(lookup: Lookup, scratch: &[u8], log: &mut [u32]) -> u8
+    requires n_in_bounds { 2 ^ lookup.case.n ≤ length scratch.now }
+    requires layout_in_bounds { layout_size (2 ^ lookup.case.n) method_2.layout ≤ length log.old }
+    ensures value { result ≡ get_or scratch.now lookup.entry.case.r3 0 }
+    ensures log_after { log.new ≡ written log.old (length head_2 + length pass_2 * 2 ^ lookup.entry.case.n)
+        (entries (kinds end_2) (lookup.entry.case.r3 ∷ get_or scratch.now lookup.entry.case.r3 0 ∷ [])) }
 {
+    let case = lookup.case;
     let r3 = case.r3 as usize;
     let turns = bits::power(case.n) as u16;
     let answer = scratch[r3];
@@ -51,18 +51,16 @@ fn put_last(case: Case, scratch: &[u8], log: &mut [u32]) -> u8
     answer
 }
 
-fn fill(case: Case, table: &[u8], scratch: &mut [u8], log: &mut [u32])
-    requires bounded { Bounded case }
-    requires table_len { length table.now ≡ 2 ^ case.n }
-    requires n_in_bounds { 2 ^ case.n ≤ length scratch.old }
-    requires layout_in_bounds { layout_size (2 ^ case.n) method_2.layout ≤ length log.old }
-    ensures scratch_after { scratch.new ≡ scratch_2 (Q case) case table.now scratch.old }
+fn fill(lookup: Lookup, scratch: &mut [u8], log: &mut [u32])
+    requires n_in_bounds { 2 ^ lookup.case.n ≤ length scratch.old }
+    requires layout_in_bounds { layout_size (2 ^ lookup.case.n) method_2.layout ≤ length log.old }
+    ensures scratch_after { scratch.new ≡ scratch_2 (Q lookup.entry.case) lookup.entry.case lookup.entry.table.now scratch.old }
     ensures log_after { log.new ≡ written log.old (length head_2)
-        (pass_lines (row_entry case table.now) (Q case) pass_2) }
+        (pass_lines (row_entry lookup.entry.case lookup.entry.table.now) (Q lookup.entry.case) pass_2) }
 {
-    let turns = bits::power(case.n) as u16;
+    let turns = bits::power(lookup.case.n) as u16;
     for a in 0..turns {
-        let values = turn(case, table, a);
+        let values = turn(lookup, a);
         let to = values[1] as usize;
         scratch[to] = values[5];
         PARTS.put_turn(log, a, values);
@@ -70,10 +68,10 @@ fn fill(case: Case, table: &[u8], scratch: &mut [u8], log: &mut [u32])
 }
 
 // The head's values, in the order of the log.
-fn head(case: Case) -> [u8; 8]
-    requires { Bounded case }
-    ensures { result ≡ row_values case [] 0 head_2 }
+fn head(lookup: Lookup) -> [u8; 8]
+    ensures { result ≡ row_values lookup.entry.case [] 0 head_2 }
 {
+    let case = lookup.case;
     let mixed = case.r1 ^ case.r3;
     [
         case.x0 as u8,
@@ -88,15 +86,14 @@ fn head(case: Case) -> [u8; 8]
 }
 
 // Turn a's values, in the order of the log.
-fn turn(case: Case, table: &[u8], a: u16) -> [u8; 6]
-    requires bounded { Bounded case }
-    requires table_len { length table.now ≡ 2 ^ case.n }
-    requires a_bound { a < 2 ^ case.n }
-    ensures { result ≡ row_values case table.now a pass_2 }
+fn turn(lookup: Lookup, a: u16) -> [u8; 6]
+    requires a_bound { a < 2 ^ lookup.case.n }
+    ensures { result ≡ row_values lookup.entry.case lookup.entry.table.now a pass_2 }
 {
-    let to = a as usize ^ crate::r_prime(case);
+    let case = lookup.case;
+    let to = a as usize ^ crate::r_prime(lookup);
     let from = case.x0 as usize ^ a as usize;
-    let entry = table[from];
+    let entry = lookup.table[from];
     let first = entry ^ case.s1 as u8;
     [
         a as u8,

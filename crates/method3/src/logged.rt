@@ -9,7 +9,7 @@ ghost use Rattle.lookup.specs.Row.{kinds, values as row_values, row_entry};
 ghost use Rattle.lookup.specs.Method3.{comparison_table, scratch_3, registers_3, answer_3, head_3, pass_3, end_3, method_3};
 
 use crate::parts::PARTS;
-use lookup::Case;
+use lookup::{Case, Lookup};
 
 // The calls have checked the case and measured the buffers, so it has a `requires`, and so have its parts.
 pub fn run(case: Case, table: &[u8], scratch: &mut [u8], log: &mut [u32]) -> u8
@@ -22,29 +22,29 @@ pub fn run(case: Case, table: &[u8], scratch: &mut [u8], log: &mut [u32]) -> u8
     ensures log_after { log.new ≡ in_front (lines (row_entry case table.now) (Q case) method_3.layout)
         log.old }
 {
+    let lookup = Lookup { case, table };
     let mut registers: [u8; 2] = [0, 0];
-    put_first(case, log);
-    crate::prepare(case, scratch);
-    select(case, table, scratch, &mut registers, log);
-    put_last(case, &registers, log)
+    put_first(lookup, log);
+    crate::prepare(lookup, scratch);
+    select(lookup, scratch, &mut registers, log);
+    put_last(lookup, &registers, log)
 }
 
-fn put_first(case: Case, log: &mut [u32])
-    requires bounded { Bounded case }
+fn put_first(lookup: Lookup, log: &mut [u32])
     requires head_3_in_bounds { length head_3 ≤ length log.old }
-    ensures { log.new ≡ written log.old 0 (entries (kinds head_3) (row_values case [] 0 head_3)) }
+    ensures { log.new ≡ written log.old 0 (entries (kinds head_3) (row_values lookup.entry.case [] 0 head_3)) }
 {
-    PARTS.put_head(log, head(case));
+    PARTS.put_head(log, head(lookup));
 }
 
 // The answer is read from register b.
-fn put_last(case: Case, registers: &[u8; 2], log: &mut [u32]) -> u8
-    requires bounded { Bounded case }
-    requires layout_in_bounds { layout_size (2 ^ case.n) method_3.layout ≤ length log.old }
-    ensures value { result ≡ get_or registers.now case.b 0 }
-    ensures log_after { log.new ≡ written log.old (length head_3 + length pass_3 * 2 ^ case.n)
-        (entries (kinds end_3) (case.b ∷ get_or registers.now case.b 0 ∷ [])) }
+fn put_last(lookup: Lookup, registers: &[u8; 2], log: &mut [u32]) -> u8
+    requires layout_in_bounds { layout_size (2 ^ lookup.case.n) method_3.layout ≤ length log.old }
+    ensures value { result ≡ get_or registers.now lookup.entry.case.b 0 }
+    ensures log_after { log.new ≡ written log.old (length head_3 + length pass_3 * 2 ^ lookup.entry.case.n)
+        (entries (kinds end_3) (lookup.entry.case.b ∷ get_or registers.now lookup.entry.case.b 0 ∷ [])) }
 {
+    let case = lookup.case;
     let b = case.b as usize;
     let turns = bits::power(case.n) as u16;
     let answer = registers[b];
@@ -52,19 +52,17 @@ fn put_last(case: Case, registers: &[u8; 2], log: &mut [u32]) -> u8
     answer
 }
 
-fn select(case: Case, table: &[u8], scratch: &[u8], registers: &mut [u8; 2], log: &mut [u32])
-    requires bounded { Bounded case }
-    requires table_len { length table.now ≡ 2 ^ case.n }
-    requires scratch_value { take (Q case) scratch.now ≡ comparison_table case }
+fn select(lookup: Lookup, scratch: &[u8], registers: &mut [u8; 2], log: &mut [u32])
+    requires scratch_value { take (Q lookup.case) scratch.now ≡ comparison_table lookup.case }
     requires registers_value { registers.old ≡ 0 ∷ 0 ∷ [] }
-    requires layout_in_bounds { layout_size (2 ^ case.n) method_3.layout ≤ length log.old }
-    ensures registers_after { registers.new ≡ registers_3 (Q case) case table.now }
+    requires layout_in_bounds { layout_size (2 ^ lookup.case.n) method_3.layout ≤ length log.old }
+    ensures registers_after { registers.new ≡ registers_3 (Q lookup.entry.case) lookup.entry.case lookup.entry.table.now }
     ensures log_after { log.new ≡ written log.old (length head_3)
-        (pass_lines (row_entry case table.now) (Q case) pass_3) }
+        (pass_lines (row_entry lookup.entry.case lookup.entry.table.now) (Q lookup.entry.case) pass_3) }
 {
-    let turns = bits::power(case.n) as u16;
+    let turns = bits::power(lookup.case.n) as u16;
     for a in 0..turns {
-        let values = turn(case, table, scratch, a);
+        let values = turn(lookup, scratch, a);
         let cmp = values[4] as usize;
         registers[cmp] = values[8];
         PARTS.put_turn(log, a, values);
@@ -72,10 +70,10 @@ fn select(case: Case, table: &[u8], scratch: &[u8], registers: &mut [u8; 2], log
 }
 
 // The head's values, in the order of the log.
-fn head(case: Case) -> [u8; 8]
-    requires { Bounded case }
-    ensures { result ≡ row_values case [] 0 head_3 }
+fn head(lookup: Lookup) -> [u8; 8]
+    ensures { result ≡ row_values lookup.entry.case [] 0 head_3 }
 {
+    let case = lookup.case;
     [
         case.x0 as u8,
         case.r1 as u8,
@@ -89,19 +87,18 @@ fn head(case: Case) -> [u8; 8]
 }
 
 // Turn a's values, in the order of the log.
-fn turn(case: Case, table: &[u8], scratch: &[u8], a: u16) -> [u8; 9]
-    requires bounded { Bounded case }
-    requires table_len { length table.now ≡ 2 ^ case.n }
-    requires scratch_value { take (Q case) scratch.now ≡ comparison_table case }
-    requires a_bound { a < 2 ^ case.n }
-    ensures { result ≡ row_values case table.now a pass_3 }
+fn turn(lookup: Lookup, scratch: &[u8], a: u16) -> [u8; 9]
+    requires scratch_value { take (Q lookup.case) scratch.now ≡ comparison_table lookup.case }
+    requires a_bound { a < 2 ^ lookup.case.n }
+    ensures { result ≡ row_values lookup.entry.case lookup.entry.table.now a pass_3 }
 {
+    let case = lookup.case;
     let once = case.r1 as usize ^ a as usize;
     let twice = once ^ case.r3 as usize;
     let at = twice ^ case.r2 as usize;
     let cmp = scratch[at];
     let from = case.x0 as usize ^ a as usize;
-    let entry = table[from];
+    let entry = lookup.table[from];
     let first = entry ^ case.s1 as u8;
     [
         a as u8,

@@ -10,7 +10,7 @@ ghost use Rattle.lookup.specs.Case.{Q};
 ghost use Rattle.lookup.specs.Bounded.{Bounded};
 ghost use Rattle.lookup.specs.Method5.{copied as method5_copied, first_half, second_half, scratch_5, answer_5};
 
-use lookup::Case;
+use lookup::{Case, Lookup};
 
 pub mod logged;
 mod parts;
@@ -25,38 +25,36 @@ pub fn run(case: Case, table: &[u8], scratch: &mut [u8]) -> u8
     ensures value { result ≡ answer_5 case table.now }
     ensures scratch_after { scratch.new ≡ scratch_5 case table.now scratch.old }
 {
-    fill(case, table, scratch);
-    answer(case, scratch)
+    let lookup = Lookup { case, table };
+    fill(lookup, scratch);
+    answer(lookup, scratch)
 }
 
-fn fill(case: Case, table: &[u8], scratch: &mut [u8])
-    requires bounded { Bounded case }
-    requires table_len { length table.now ≡ 2 ^ case.n }
-    requires n_in_bounds { 2 * 2 ^ case.n ≤ length scratch.old }
-    ensures { scratch.new ≡ scratch_5 case table.now scratch.old }
+fn fill(lookup: Lookup, scratch: &mut [u8])
+    requires n_in_bounds { 2 * 2 ^ lookup.case.n ≤ length scratch.old }
+    ensures { scratch.new ≡ scratch_5 lookup.entry.case lookup.entry.table.now scratch.old }
 {
-    fill_first(case, table, scratch);
-    fill_second(case, scratch);
+    fill_first(lookup, scratch);
+    fill_second(lookup, scratch);
 }
 
-fn fill_first(case: Case, table: &[u8], scratch: &mut [u8])
-    requires bounded { Bounded case }
-    requires table_len { length table.now ≡ 2 ^ case.n }
-    requires n_in_bounds { 2 * 2 ^ case.n ≤ length scratch.old }
-    ensures { scratch.new ≡ written scratch.old 0 (first_half case table.now) }
+fn fill_first(lookup: Lookup, scratch: &mut [u8])
+    requires n_in_bounds { 2 * 2 ^ lookup.case.n ≤ length scratch.old }
+    ensures { scratch.new ≡ written scratch.old 0 (first_half lookup.entry.case lookup.entry.table.now) }
 {
+    let case = lookup.case;
     let turns = bits::power(case.n) as u16;
     for a in 0..turns {
-        scratch[a as usize] = copied(table, a, case.r1, case.s1);
+        scratch[a as usize] = copied(lookup.table, a, case.r1, case.s1);
     }
 }
 
 // The first half stands in front of the bytes that are written, so no turn touches what a later one reads.
-fn fill_second(case: Case, scratch: &mut [u8])
-    requires bounded { Bounded case }
-    requires n_in_bounds { 2 * 2 ^ case.n ≤ length scratch.old }
-    ensures { scratch.new ≡ written scratch.old (Q case) (second_half case scratch.old) }
+fn fill_second(lookup: Lookup, scratch: &mut [u8])
+    requires n_in_bounds { 2 * 2 ^ lookup.case.n ≤ length scratch.old }
+    ensures { scratch.new ≡ written scratch.old (Q lookup.entry.case) (second_half lookup.entry.case scratch.old) }
 {
+    let case = lookup.case;
     let turns = bits::power(case.n) as u16;
     for a in 0..turns {
         let entry = copied(scratch, a, case.r2, case.s2);
@@ -75,11 +73,10 @@ fn copied(from: &[u8], a: u16, r: u32, s: u32) -> u8
 }
 
 // Byte x0 of the second half.
-fn answer(case: Case, scratch: &[u8]) -> u8
-    requires bounded { Bounded case }
-    requires n_in_bounds { 2 * 2 ^ case.n ≤ length scratch.now }
-    ensures { result ≡ get_or scratch.now (2 ^ case.n + case.x0) 0 }
+fn answer(lookup: Lookup, scratch: &[u8]) -> u8
+    requires n_in_bounds { 2 * 2 ^ lookup.case.n ≤ length scratch.now }
+    ensures { result ≡ get_or scratch.now (2 ^ lookup.entry.case.n + lookup.entry.case.x0) 0 }
 {
-    let half = bits::power(case.n) as usize;
-    scratch[half + case.x0 as usize]
+    let half = bits::power(lookup.case.n) as usize;
+    scratch[half + lookup.case.x0 as usize]
 }

@@ -3,4 +3,4 @@ use Rattle.method5.proofs.Copying.{Second}
 use Rattle.method5.proofs.fill_second.Given as goal
 
 abbrev pub invariant-loop-a : goal.invariant-loop-a
-invariant-loop-a l = Second l.case l.initial.scratch l.scratch l.a
+invariant-loop-a l = Second l.lookup.case l.initial.scratch l.scratch l.a

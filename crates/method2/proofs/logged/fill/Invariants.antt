@@ -7,4 +7,4 @@ use Rattle.method2.proofs.logged.fill.Given as goal
 
 abbrev pub invariant-loop-a : goal.invariant-loop-a
 invariant-loop-a l =
-    Filling l.case l.table l.initial.scratch l.scratch l.a × Logging (row_entry l.case l.table) pass_2 8 l.initial.log l.log l.a
+    Filling l.lookup.case l.lookup.table.now l.initial.scratch l.scratch l.a × Logging (row_entry l.lookup.case l.lookup.table.now) pass_2 8 l.initial.log l.log l.a

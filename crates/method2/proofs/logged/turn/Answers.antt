@@ -6,8 +6,8 @@ use Rattle.lookup.proofs.Runs.{in_table}
 use Rattle.method2.proofs.Filling.{from_first, place_byte}
 use Rattle.method2.proofs.logged.turn.Goals as goal
 
-pub bounds-table-from : goal.bounds-table-from
-bounds-table-from c = search in_table
+pub bounds-lookup-from : goal.bounds-lookup-from
+bounds-lookup-from c = search in_table
 
 pub overflow_cast-result-2 : goal.overflow_cast-result-2
 overflow_cast-result-2 c = search (place_byte, from_first)

@@ -7,4 +7,4 @@ use Rattle.method3.proofs.logged.select.Given as goal
 
 abbrev pub invariant-loop-a : goal.invariant-loop-a
 invariant-loop-a l =
-    Selecting l.case l.table l.registers l.a × Logging (row_entry l.case l.table) pass_3 8 l.initial.log l.log l.a
+    Selecting l.lookup.case l.lookup.table.now l.registers l.a × Logging (row_entry l.lookup.case l.lookup.table.now) pass_3 8 l.initial.log l.log l.a

@@ -12,11 +12,11 @@ pub bounds-scratch-at : goal.bounds-scratch-at
 unfolding place_3 ◌⊕◌
 bounds-scratch-at c = search in_scratch
 
-pub bounds-table-from : goal.bounds-table-from
-bounds-table-from c = search in_table
+pub bounds-lookup-from : goal.bounds-lookup-from
+bounds-lookup-from c = search in_table
 
 pub returns : goal.returns
 unfolding masked at place_3 ◌⊕◌
 returns c =
     let start = c in
-    rw (byte_is start.args.case start.args.scratch.now start.args.a (search rules) (search rules) (search rules))
+    rw (byte_is start.args.lookup.case start.args.scratch.now start.args.a (search rules) (search rules) (search rules))

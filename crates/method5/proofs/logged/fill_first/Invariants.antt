@@ -7,4 +7,4 @@ use Rattle.method5.proofs.logged.fill_first.Given as goal
 
 abbrev pub invariant-loop-a : goal.invariant-loop-a
 invariant-loop-a l =
-    First l.case l.table l.initial.scratch l.scratch l.a × Logging (row_entry l.case l.table) first_pass_5 5 l.initial.log l.log l.a
+    First l.lookup.case l.lookup.table.now l.initial.scratch l.scratch l.a × Logging (row_entry l.lookup.case l.lookup.table.now) first_pass_5 5 l.initial.log l.log l.a

@@ -8,4 +8,4 @@ use Rattle.method5.proofs.logged.fill_second.Given as goal
 
 abbrev pub invariant-loop-a : goal.invariant-loop-a
 invariant-loop-a l =
-    Second l.case l.initial.scratch l.scratch l.a × Logging (row_entry l.case l.initial.scratch) half_pass_5 (5 + 4 * 2 ^ l.case.n) l.initial.log l.log l.a
+    Second l.lookup.case l.initial.scratch l.scratch l.a × Logging (row_entry l.lookup.case l.initial.scratch) half_pass_5 (5 + 4 * 2 ^ l.lookup.case.n) l.initial.log l.log l.a
