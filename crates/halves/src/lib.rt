@@ -6,8 +6,10 @@ ghost use Rattle.std.specs.Prelude.{◌≡◌, ◌*◌, ◌^◌, ◌≤◌, ◌<
 ghost use Rattle.halves.specs.Bounded.{Bounded};
 ghost use Rattle.halves.specs.Halves.{half as halves_half, c3};
 
+mod bounded;
 mod registers;
 
+pub use bounded::BoundedSelection;
 pub use registers::run;
 
 // The word's width in bits is twice this width. z0 joined with the masks z1 and z2 is the word, c0 joined with c1 and c2 the bit; t1, t2 and b

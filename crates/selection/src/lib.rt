@@ -10,7 +10,7 @@ ghost use Rattle.selection.specs.Select.{selection_from, select_reply, select_lo
 mod checks;
 mod logged;
 
-use halves::Selection;
+use halves::{BoundedSelection, Selection};
 use refusals::Refusal;
 
 // What an accepted call hands back: the three shares of the half, and the count of log entries.
@@ -52,7 +52,7 @@ pub fn select(
         b,
     };
     checks::refused_logged(selection, log)?;
-    Ok(logged::run(selection, log))
+    Ok(logged::run(BoundedSelection { selection }, log))
 }
 
 // The same choice without a log. Accepted, it puts each share of the half in a place of its own.

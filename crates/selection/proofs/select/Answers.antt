@@ -12,11 +12,11 @@ returns-in_err-refused_logged-clause-value c =
 pub returns-in_err-refused_logged-clause-log_after : goal.returns-in_err-refused_logged-clause-log_after
 returns-in_err-refused_logged-clause-log_after c = log_refused _ _ _ c.in_err-refused_logged.ensures (not_zero _)
 
-pub run-requires-clause-bounded : goal.run-requires-clause-bounded
-run-requires-clause-bounded c = told_logged _ _ c.in_ok-refused_logged.ensures
+pub invariant_of-run : goal.invariant_of-run
+invariant_of-run c = record { bounded = told_logged _ _ c.in_ok-refused_logged.ensures }
 
-pub run-requires-clause-in_bounds : goal.run-requires-clause-in_bounds
-run-requires-clause-in_bounds c = told_long _ _ c.in_ok-refused_logged.ensures
+pub run-requires : goal.run-requires
+run-requires c = record { in_bounds = told_long _ _ c.in_ok-refused_logged.ensures }
 
 pub returns-clause-value : goal.returns-clause-value
 returns-clause-value c = reply_accepted _ _ _ c.in_ok-refused_logged.ensures _ refl c.run.ensures.value
