@@ -27,11 +27,17 @@ use Rattle.conversion.specs.Conversion.{sheet_lines, conversion_checks, conversi
 
 -- WHAT REFUSES IT
 -- each list is looked through, as it is
-pub either_above : {r s : Bool} (most least : ℕ) (numbers table : List ℕ) → least ≡ most → r ≡ any_from (least + 1) (map (λ x. x) numbers)
-    → s ≡ any_from (least + 1) (map (λ x. x) table)
-    → (r || s) ≡ any_from (most + 1) (numbers ++ table)
-either_above most least numbers table l e f =
-    rw (e, f, l, map-id numbers, map-id table) (sym (any_either (most + 1) numbers table))
+module _ {r : Bool} (most least : ℕ) (numbers table : List ℕ) (same : least ≡ most) (e : r ≡ any_from (least + 1) (map (λ x. x) numbers)) where
+  numbers_told : any_from (most + 1) (numbers ++ table) ≡ (r || any_from (most + 1) table)
+  numbers_told =
+      any_either (most + 1) numbers table
+      ∙ ap (λ t. t || any_from (most + 1) table) (sym (e ∙ rw (same, map-id numbers)))
+
+  pub first_above : r ≡ true → r ≡ any_from (most + 1) (numbers ++ table)
+  first_above y = y ∙ sym (numbers_told ∙ rw y)
+
+  pub rest_above : {s : Bool} → s ≡ any_from (least + 1) (map (λ x. x) table) → r ≡ false → s ≡ any_from (most + 1) (numbers ++ table)
+  rest_above f n = f ∙ rw (same, map-id table) (sym (numbers_told ∙ rw n))
 
 -- ITS LINES
 module _ (columns : ℕ) (numbers table : List ℕ) (few : columns ≤ 6) (ten : length numbers ≡ 10) where
