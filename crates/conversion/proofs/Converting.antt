@@ -1,7 +1,7 @@
 -- How a sheet is carried over: what refuses it, and its lines.
 use mathlib.Core.Path.{◌≡◌, refl, sym, ap, ◌∙◌}
-use mathlib.Core.Bool.{Bool, true, false}
-use mathlib.Core.List.{List, [], ◌∷◌, ◌++◌}
+use mathlib.Core.Bool.{Bool, true, false, ◌||◌}
+use mathlib.Core.List.{List, [], ◌∷◌, ◌++◌, map}
 use Prim.Native.Nat.{ℕ, ◌+◌, ◌*◌, ◌≤◌, ◌<◌}
 use native.Mathlib.Nat.{mul-le-mul}
 use native.Mathlib.Omega.{arith}
@@ -9,40 +9,35 @@ use borrow.Author.Tests.{eq-eqb, ne_eqb}
 use mir.Syntax.{w64}
 use mir.Val.{Fits}
 use lib.ListN.{length, take, replicate, length-append}
-use Rattle.refusals.specs.Checks.{◌when◌, first_of}
+use Rattle.std.specs.Prelude.{Option, Some, None}
+use Rattle.std.proofs.lemmas.List.{map-id}
+use Rattle.refusals.specs.Checks.{first_of}
 use Rattle.refusals.specs.Tests.{any_from}
-use Rattle.refusals.proofs.Checks.{stops, goes, none_applies}
 use Rattle.refusals.proofs.Tests.{any_either}
 use Rattle.buffers.specs.Written.{written, in_front}
 use Rattle.buffers.proofs.Written.{written_more, written_front}
 use Rattle.case_sheet.specs.declared.Edition.{Edition}
-use Rattle.case_sheet.specs.declared.Lines.{Lines}
 use Rattle.case_sheet.specs.Edition.{four_columns, six_columns}
-use Rattle.case_sheet.specs.Sheet.{numbers_of, table_of, well_formed, other_form, lines_of}
-use Rattle.case_sheet.proofs.Sheets.{numbers_read, table_lent, entries_few, entries_lent, entries_within}
+use Rattle.case_sheet.specs.Sheet.{numbers_of, table_of, well_formed, lines_of}
+use Rattle.case_sheet.proofs.Sheets.{read_malformed, read_formed, numbers_read, table_lent, entries_few, entries_lent, entries_within}
 use Rattle.log_print.specs.Lines.{line_of, column_of}
 use Rattle.log_print.proofs.Lines.{line_long}
 use Rattle.log_print.proofs.Columns.{column_long}
 use Rattle.conversion.specs.Conversion.{sheet_lines, conversion_checks, conversion_refusal, converted, to_six_columns, to_four_columns}
 
 -- WHAT REFUSES IT
-module _ (malformed : Bool) (most : ℕ) (numbers table : List ℕ) where
-  pub at_1 : malformed ≡ true → 1 ≡ first_of (1 when malformed ∷ 22 when (any_from (most + 1) (numbers ++ table)) ∷ [])
-  at_1 e = stops 1 _ e
+-- each list is looked through, as it is
+module _ {r : Bool} (most least : ℕ) (numbers table : List ℕ) (same : least ≡ most) (e : r ≡ any_from (least + 1) (map (λ x. x) numbers)) where
+  numbers_told : any_from (most + 1) (numbers ++ table) ≡ (r || any_from (most + 1) table)
+  numbers_told =
+      any_either (most + 1) numbers table
+      ∙ ap (λ t. t || any_from (most + 1) table) (sym (e ∙ rw (same, map-id numbers)))
 
-  module _ (e : malformed ≡ false) (r : Bool) (f : r ≡ any_from (most + 1) numbers) where
-    pub at_22 : r ≡ true → 22 ≡ first_of (1 when malformed ∷ 22 when (any_from (most + 1) (numbers ++ table)) ∷ [])
-    at_22 h = goes 1 _ e (stops 22 _ (any_either (most + 1) numbers table ∙ rw (sym f ∙ h)))
+  pub first_above : r ≡ true → r ≡ any_from (most + 1) (numbers ++ table)
+  first_above y = y ∙ sym (numbers_told ∙ rw y)
 
-    module _ (n : r ≡ false) (s : Bool) (g : s ≡ any_from (most + 1) table) where
-      either : any_from (most + 1) (numbers ++ table) ≡ s
-      either = any_either (most + 1) numbers table ∙ rw (sym f ∙ n) (sym g)
-
-      pub at_22_table : s ≡ true → 22 ≡ first_of (1 when malformed ∷ 22 when (any_from (most + 1) (numbers ++ table)) ∷ [])
-      at_22_table h = goes 1 _ e (stops 22 _ (either ∙ h))
-
-      pub at_none : s ≡ false → 0 ≡ first_of (1 when malformed ∷ 22 when (any_from (most + 1) (numbers ++ table)) ∷ [])
-      at_none h = goes 1 _ e (goes 22 _ (either ∙ h) none_applies)
+  pub rest_above : {s : Bool} → s ≡ any_from (least + 1) (map (λ x. x) table) → r ≡ false → s ≡ any_from (most + 1) (numbers ++ table)
+  rest_above f n = f ∙ rw (same, map-id table) (sym (numbers_told ∙ rw n))
 
 -- ITS LINES
 module _ (columns : ℕ) (numbers table : List ℕ) (few : columns ≤ 6) (ten : length numbers ≡ 10) where
@@ -79,70 +74,81 @@ module _ (columns : ℕ) (numbers table : List ℕ) (few : columns ≤ 6) (ten :
         ∙ written_front before _
 
 -- THE WHOLE
-module _ (from to : Edition) (input : List ℕ) (s : Lines) (told : s ≡ lines_of from 10 input) (old table : List ℕ)
-    (read : table ≡ in_front (table_of from 10 input) old) where
-  same_entries : s.entries ≡ (lines_of from 10 input).entries
-  same_entries = ap (λ y. y.entries) told
+-- a refusal's number alone
+module _ (from to : Edition) (input : List ℕ) (refusal : ℕ) (number : conversion_refusal from to input ≡ refusal) (h : refusal ≡ 0 → ⊥) where
+  refused_lines : line_of 6 (refusal ∷ []) ≡ converted from to input
+  unfolding converted
+  refused_lines = rw (number, ne_eqb _ 0 h)
 
-  pub entries_counted : s.entries ≡ length (take s.entries table)
-  entries_counted = entries_lent from 10 input old table read s.entries same_entries
+  refused_long : {k : ℕ} → k ≡ length (line_of 6 (refusal ∷ [])) → k ≡ length (converted from to input)
+  refused_long e = e ∙ ap length refused_lines
 
-  pub entries_inside : s.entries ≤ length table
-  entries_inside = entries_within from 10 input old table read s.entries same_entries
+  refused_left : (before now : List ℕ) → now ≡ in_front (line_of 6 (refusal ∷ [])) before → now ≡ in_front (converted from to input) before
+  refused_left before now e = e ∙ ap (λ l. in_front l before) refused_lines
 
-  pub lines_few : length (take s.entries table) ≤ 256
-  lines_few = omega (arith, entries_counted, entries_few from 10 input old table read s.entries same_entries)
+module _ (from to : Edition) (input : List ℕ) {r : Option ℕ} (told : r ≡ lines_of from 10 input) where
+  module _ (none : r ≡ None) where
+    other_form : conversion_refusal from to input ≡ 1
+    unfolding conversion_refusal conversion_checks first_of
+    other_form = rw (read_malformed from 10 input r told none)
 
-  module _ (numbers : List ℕ) (listed : numbers ≡ in_front (numbers_of from 10 input) (replicate 10 0)) (refusal : ℕ)
-      (first : refusal ≡ first_of (1 when s.malformed ∷ 22 when (any_from (to.most + 1) (numbers ++ take s.entries table)) ∷ [])) where
-    formed_numbers : well_formed from 10 input ≡ true → numbers ≡ numbers_of from 10 input
-    formed_numbers w = numbers_read from 10 input (replicate 10 0) numbers refl w listed
+    pub malformed_long : {k : ℕ} → k ≡ length (line_of 6 (1 ∷ [])) → k ≡ length (converted from to input)
+    malformed_long e = refused_long from to input 1 other_form (λ z. omega arith) e
 
-    formed_table : well_formed from 10 input ≡ true → take s.entries table ≡ table_of from 10 input
-    formed_table w = table_lent from 10 input old table read s.entries same_entries w
+    pub malformed_left : (before now : List ℕ) → now ≡ in_front (line_of 6 (1 ∷ [])) before → now ≡ in_front (converted from to input) before
+    malformed_left before now e = refused_left from to input 1 other_form (λ z. omega arith) before now e
 
-    same_refusal : refusal ≡ conversion_refusal from to input
-    unfolding conversion_refusal conversion_checks lines_of other_form first_of
-    same_refusal = same_refusal_by_cases (well_formed from 10 input) refl
-      where
-        same_refusal_by_cases : (t : Bool) → well_formed from 10 input ≡ t → refusal ≡ conversion_refusal from to input
-        same_refusal_by_cases false w =
-            let other : s.malformed ≡ true = rw (told, w) in
-            first ∙ rw (other, w)
-        same_refusal_by_cases true w =
-            let form : s.malformed ≡ false = rw (told, w) in
-            first ∙ rw (form, w, formed_numbers w, formed_table w)
+  module _ (entries : ℕ) (is : r ≡ Some entries) where
+    form : (well_formed from 10 input ≡ true) × (entries ≡ length (table_of from 10 input))
+    form = read_formed from 10 input r told is
 
-    refused_lines : (refusal ≡ 0 → ⊥) → line_of 6 (refusal ∷ []) ≡ converted from to input
-    unfolding converted
-    refused_lines h = rw (same_refusal, ne_eqb _ 0 (λ z. h (same_refusal ∙ z)))
+    module _ (old table : List ℕ) (read : table ≡ in_front (table_of from 10 input) old) where
+      pub entries_counted : entries ≡ length (take entries table)
+      entries_counted = entries_lent from 10 input old table read entries form.1
 
-    pub refused_long : {k : ℕ} → (refusal ≡ 0 → ⊥) → k ≡ length (line_of 6 (refusal ∷ [])) → k ≡ length (converted from to input)
-    refused_long h e = e ∙ ap length (refused_lines h)
+      pub entries_inside : entries ≤ length table
+      entries_inside = entries_within from 10 input old table read entries form.1
 
-    pub refused_left : (before now : List ℕ) → (refusal ≡ 0 → ⊥) → now ≡ in_front (line_of 6 (refusal ∷ [])) before
-        → now ≡ in_front (converted from to input) before
-    refused_left before now h e = e ∙ ap (λ l. in_front l before) (refused_lines h)
+      pub lines_few : length (take entries table) ≤ 256
+      lines_few = omega (arith, entries_counted, entries_few from 10 input old table read entries form.1)
 
-    module _ (z : refusal ≡ 0) where
-      formed : well_formed from 10 input ≡ true
-      unfolding conversion_refusal conversion_checks first_of
-      formed = formed_by_cases (well_formed from 10 input) refl
-        where
-          formed_by_cases : (t : Bool) → well_formed from 10 input ≡ t → t ≡ true
-          formed_by_cases true w = refl
-          formed_by_cases false w = let one : refusal ≡ 1 = same_refusal ∙ rw w in absurd (omega arith)
+      formed_table : take entries table ≡ table_of from 10 input
+      formed_table = table_lent from 10 input old table read entries form.1
 
-      taken : sheet_lines to.columns numbers (take s.entries table) ≡ converted from to input
-      unfolding converted
-      taken = rw (formed_numbers formed, formed_table formed, eq-eqb _ 0 (sym same_refusal ∙ z))
+      module _ (numbers : List ℕ) (listed : numbers ≡ in_front (numbers_of from 10 input) (replicate 10 0)) (t : Bool)
+          (seen : t ≡ any_from (to.most + 1) (numbers ++ take entries table)) where
+        formed_numbers : numbers ≡ numbers_of from 10 input
+        formed_numbers = numbers_read from 10 input (replicate 10 0) numbers refl form.0 listed
 
-      pub taken_long : {k : ℕ} → k ≡ length (sheet_lines to.columns numbers (take s.entries table)) → k ≡ length (converted from to input)
-      taken_long e = e ∙ ap length taken
+        large : any_from (to.most + 1) (numbers_of from 10 input ++ table_of from 10 input) ≡ t
+        large = sym (seen ∙ rw (formed_numbers, formed_table))
 
-      pub taken_left : (before now : List ℕ) → now ≡ in_front (sheet_lines to.columns numbers (take s.entries table)) before
-          → now ≡ in_front (converted from to input) before
-      taken_left before now e = e ∙ ap (λ l. in_front l before) taken
+        module _ (y : t ≡ true) where
+          above : conversion_refusal from to input ≡ 22
+          unfolding conversion_refusal conversion_checks first_of
+          above = rw (form.0, large ∙ y)
+
+          pub above_long : {k : ℕ} → k ≡ length (line_of 6 (22 ∷ [])) → k ≡ length (converted from to input)
+          above_long e = refused_long from to input 22 above (λ z. omega arith) e
+
+          pub above_left : (before now : List ℕ) → now ≡ in_front (line_of 6 (22 ∷ [])) before → now ≡ in_front (converted from to input) before
+          above_left before now e = refused_left from to input 22 above (λ z. omega arith) before now e
+
+        module _ (n : t ≡ false) where
+          nothing : conversion_refusal from to input ≡ 0
+          unfolding conversion_refusal conversion_checks first_of
+          nothing = rw (form.0, large ∙ n)
+
+          taken : sheet_lines to.columns numbers (take entries table) ≡ converted from to input
+          unfolding converted
+          taken = rw (formed_numbers, formed_table, eq-eqb _ 0 nothing)
+
+          pub taken_long : {k : ℕ} → k ≡ length (sheet_lines to.columns numbers (take entries table)) → k ≡ length (converted from to input)
+          taken_long e = e ∙ ap length taken
+
+          pub taken_left : (before now : List ℕ) → now ≡ in_front (sheet_lines to.columns numbers (take entries table)) before
+              → now ≡ in_front (converted from to input) before
+          taken_left before now e = e ∙ ap (λ l. in_front l before) taken
 
 -- EACH WAY
 module _ (from to : Edition) (input : List ℕ) where

@@ -9,8 +9,7 @@ use lib.ListN.{length, take, drop}
 use Rattle.refusals.specs.Checks.{first_of}
 use Rattle.refusals.specs.Tests.{any_from}
 use Rattle.refusals.proofs.Tests.{neither, neither_of, one_below, none_below, any_either, any_less}
-use Rattle.field.specs.declared.Field.{Field}
-use Rattle.field.specs.declared.Field.TheVariants.{Number, Malformed}
+use Rattle.std.specs.Prelude.{Option, Some, None}
 use Rattle.case_sheet.specs.declared.Edition.{Edition}
 use Rattle.case_sheet.specs.Edition.{four_columns, six_columns}
 use Rattle.case_sheet.specs.Sheet.{item, size, before, leading, numbers_of, table_of, well_formed}
@@ -34,11 +33,11 @@ leading_small edition line zero bytes = none_below _
 leading_small edition line (suc k) bytes =
     leading_small_by_cases (item edition line bytes) refl (leading_small edition line k (drop (size edition line) bytes))
   where
-    leading_small_by_cases : (found : Field) → item edition line bytes ≡ found
+    leading_small_by_cases : (found : Option ℕ) → item edition line bytes ≡ found
         → any_from (edition.most + 1) (leading edition line k (drop (size edition line) bytes)) ≡ false
         → any_from (edition.most + 1) (before found (leading edition line k (drop (size edition line) bytes))) ≡ false
-    leading_small_by_cases Malformed q more = none_below _
-    leading_small_by_cases (Number value) q more =
+    leading_small_by_cases None q more = none_below _
+    leading_small_by_cases (Some value) q more =
         one_below (edition.most + 1) value _ (omega (arith, (item_found edition line bytes value q).1)) more
 
 sheet_small : (edition : Edition) (input : List ℕ)

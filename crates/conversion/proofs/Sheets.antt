@@ -12,8 +12,7 @@ use lib.ListN.{length, get_or, take, drop, length-append, length-drop, take-appe
 use lib.Seq.{take-add, take_all, take-suc, take_at, drop_at, get_or_at, get_or-append-add}
 use Rattle.refusals.specs.Tests.{any_from}
 use Rattle.refusals.proofs.Tests.{all_below}
-use Rattle.field.specs.declared.Field.{Field}
-use Rattle.field.specs.declared.Field.TheVariants.{Number, Malformed}
+use Rattle.std.specs.Prelude.{Option, Some, None}
 use Rattle.field.specs.Field.{field_of}
 use Rattle.field.specs.Printed.{printed}
 use Rattle.field.specs.Promises.{ReadBack, WrittenOnce}
@@ -32,7 +31,7 @@ use Rattle.conversion.specs.Promises.{Legible}
 -- A SHEET IS ITS LINES
 module _ (edition : Edition) where
   -- a field that was read is what is printed of its number
-  item_printed : (line : Bool) (bytes : List ℕ) (value : ℕ) → item edition line bytes ≡ Number value
+  item_printed : (line : Bool) (bytes : List ℕ) (value : ℕ) → item edition line bytes ≡ Some value
       → (printed edition.columns value ≡ take edition.columns bytes) × (line ≡ true → get_or bytes edition.columns 0 ≡ 10)
   unfolding item WrittenOnce
   item_printed false bytes value e =
@@ -40,7 +39,7 @@ module _ (edition : Edition) where
   item_printed true bytes value e = item_printed_by_cases (eqb (get_or bytes edition.columns 0) 10) refl e
     where
       item_printed_by_cases : (t : Bool) → eqb (get_or bytes edition.columns 0) 10 ≡ t
-          → cond (not t) Malformed (field_of edition.columns edition.most (take edition.columns bytes)) ≡ Number value
+          → cond (not t) None (field_of edition.columns edition.most (take edition.columns bytes)) ≡ Some value
           → (printed edition.columns value ≡ take edition.columns bytes) × (true ≡ true → get_or bytes edition.columns 0 ≡ 10)
       item_printed_by_cases false q e = let z : ◌≡◌ {A = ℕ} 0 1 = cc in absurd (omega arith)
       item_printed_by_cases true q e =
@@ -53,21 +52,21 @@ module _ (edition : Edition) where
   fields_written zero bytes e = rw (mul-zero edition.columns)
   fields_written (suc k) bytes e = fields_by_cases (item edition false bytes) refl e (fields_written k (drop edition.columns bytes))
     where
-      fields_by_cases : (found : Field) → item edition false bytes ≡ found
+      fields_by_cases : (found : Option ℕ) → item edition false bytes ≡ found
           → length (before found (leading edition false k (drop edition.columns bytes))) ≡ suc k
           → (length (leading edition false k (drop edition.columns bytes)) ≡ k
           → line_of edition.columns (leading edition false k (drop edition.columns bytes))
           ≡ take (edition.columns * k) (drop edition.columns bytes) ++ (10 ∷ []))
           → line_of edition.columns (before found (leading edition false k (drop edition.columns bytes)))
           ≡ take (edition.columns * suc k) bytes ++ (10 ∷ [])
-      fields_by_cases Malformed q e more = absurd (omega arith)
-      fields_by_cases (Number value) q e more =
+      fields_by_cases None q e more = absurd (omega arith)
+      fields_by_cases (Some value) q e more =
           let columns : edition.columns * suc k ≡ edition.columns + edition.columns * k = mul-suc edition.columns k ∙ add_comm _ _ in
           rw (columns, take-add edition.columns (edition.columns * k) bytes, append_assoc)
           (ap₂ ◌++◌ (item_printed false bytes value q).0 (more (omega arith)))
 
   -- the lines of a table
-  line_written : (bytes : List ℕ) (value : ℕ) → item edition true bytes ≡ Number value
+  line_written : (bytes : List ℕ) (value : ℕ) → item edition true bytes ≡ Some value
       → line_of edition.columns (value ∷ []) ≡ take (edition.columns + 1) bytes
   unfolding line_of
   line_written bytes value e =
@@ -84,14 +83,14 @@ module _ (edition : Edition) where
   lines_written zero bytes = rw (mul-zero (edition.columns + 1))
   lines_written (suc k) bytes = lines_by_cases (item edition true bytes) refl (lines_written k (drop (edition.columns + 1) bytes))
     where
-      lines_by_cases : (found : Field) → item edition true bytes ≡ found
+      lines_by_cases : (found : Option ℕ) → item edition true bytes ≡ found
           → column_of edition.columns (leading edition true k (drop (edition.columns + 1) bytes))
           ≡ take ((edition.columns + 1) * length (leading edition true k (drop (edition.columns + 1) bytes)))
           (drop (edition.columns + 1) bytes)
           → column_of edition.columns (before found (leading edition true k (drop (edition.columns + 1) bytes)))
           ≡ take ((edition.columns + 1) * length (before found (leading edition true k (drop (edition.columns + 1) bytes)))) bytes
-      lines_by_cases Malformed q more = rw (mul-zero (edition.columns + 1))
-      lines_by_cases (Number value) q more =
+      lines_by_cases None q more = rw (mul-zero (edition.columns + 1))
+      lines_by_cases (Some value) q more =
           let rest = leading edition true k (drop (edition.columns + 1) bytes) in
           let sizes : (edition.columns + 1) * suc (length rest) ≡ edition.columns + 1 + (edition.columns + 1) * length rest
           = mul-suc (edition.columns + 1) (length rest) ∙ add_comm _ _ in
@@ -134,7 +133,7 @@ line_ended columns (value ∷ numbers) rest =
 -- in an edition whose largest number has room in its columns
 module _ (edition : Edition) (legible : Legible edition) where
   field_read : (value : ℕ) (rest : List ℕ) → value ≤ edition.most
-      → field_of edition.columns edition.most (take edition.columns (printed edition.columns value ++ rest)) ≡ Number value
+      → field_of edition.columns edition.most (take edition.columns (printed edition.columns value ++ rest)) ≡ Some value
   unfolding ReadBack
   field_read value rest h =
       ap (field_of edition.columns edition.most)
@@ -160,7 +159,7 @@ module _ (edition : Edition) (legible : Legible edition) where
 
   -- a line of a table
   line_read : (value : ℕ) (rest : List ℕ) → value ≤ edition.most
-      → item edition true (line_of edition.columns (value ∷ []) ++ rest) ≡ Number value
+      → item edition true (line_of edition.columns (value ∷ []) ++ rest) ≡ Some value
   unfolding item line_of
   line_read value rest h =
       let field = printed edition.columns value in

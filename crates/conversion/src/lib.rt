@@ -1,13 +1,13 @@
 // Case sheets carried over from one edition to another, each way.
 #![tactic(auto)]
 
-ghost use Rattle.std.specs.Prelude.{◌≡◌, [], ◌∷◌, ◌++◌, ◌+◌, ◌≤◌, ◌<◌, length};
-ghost use Rattle.refusals.specs.Checks.{◌when◌, first_of};
+ghost use Rattle.std.specs.Prelude.{◌≡◌, ◌++◌, ◌+◌, ◌≤◌, ◌<◌, length};
 ghost use Rattle.refusals.specs.Tests.{any_from};
 ghost use Rattle.buffers.specs.Written.{in_front};
 ghost use Rattle.conversion.specs.Conversion.{sheet_lines, converted, to_six_columns as conversion_to_six_columns, to_four_columns as conversion_to_four_columns};
 
 use case_sheet::Edition;
+use refusals::Refusal;
 
 // Carries a sheet of four columns over to six, in front in the output, and returns the count of bytes; or 1 alone, for what is no such sheet.
 // The longest sheet of six columns has 1,853 bytes.
@@ -38,30 +38,22 @@ fn convert(input: &[u8], from: Edition, to: Edition, output: &mut [u8; 2048]) ->
 {
     let mut numbers = [0u32; 10];
     let mut table = [0u32; 256];
-    let lines = case_sheet::read_numbers(input, from, &mut numbers, &mut table);
-    let entries = lines.entries;
-    let refusal = refused(lines.malformed, to.most, &numbers, &table[..entries]);
-    if refusal != 0 {
-        return log_print::put_refusal(output, refusal);
+    let Some(entries) = case_sheet::read_numbers(input, from, &mut numbers, &mut table) else {
+        return log_print::put_refusal(output, Refusal::MalformedInput);
+    };
+    let table = &table[..entries];
+    if any_above(to.most, &numbers, table) {
+        return log_print::put_refusal(output, Refusal::LargeNumber);
     }
-    put_sheet(output, to.columns, &numbers, &table[..entries])
+    put_sheet(output, to.columns, &numbers, table)
 }
 
-// 1, then 22.
-fn refused(malformed: bool, most: u16, numbers: &[u32], table: &[u32]) -> u32
-    ensures { result ≡ first_of (1 when malformed ∷ 22 when (any_from (most + 1) (numbers.now ++ table.now)) ∷ []) }
+// Whether a number of the case line or of the table is above the largest.
+fn any_above(most: u16, numbers: &[u32], table: &[u32]) -> bool
+    ensures { result ≡ any_from (most + 1) (numbers.now ++ table.now) }
 {
-    if malformed {
-        return 1;
-    }
-    let least = most as u32 + 1;
-    if refusals::any_number_from(least, numbers) {
-        return 22;
-    }
-    if refusals::any_number_from(least, table) {
-        return 22;
-    }
-    0
+    let least = u32::from(most) + 1;
+    refusals::any_number_from(least, numbers) || refusals::any_number_from(least, table)
 }
 
 // The lines of a sheet in front in the output. Returns the count of bytes.

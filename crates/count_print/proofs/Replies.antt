@@ -24,16 +24,16 @@ use Rattle.count_print.proofs.Refusals.{width_small, side_most}
 module _ (p : ProbePair) (table : List ℕ) (refusal : ℕ)
     (told : refusal ≡ count_refusal p table (replicate 512 0) (replicate 2400 0) (replicate 64 0)) where
   -- refused
-  refused : (refusal ≡ 0 → ⊥) → line_of 6 (refusal ∷ []) ≡ reply p table
-  unfolding reply print_refusal
-  refused h = rw (told, ne_eqb _ 0 (λ z. h (told ∙ z)))
+  module _ (h : refusal ≡ 0 → ⊥) where
+    refused : line_of 6 (refusal ∷ []) ≡ reply p table
+    unfolding reply print_refusal
+    refused = rw (told, ne_eqb _ 0 (λ z. h (told ∙ z)))
 
-  pub refused_long : {k : ℕ} → (refusal ≡ 0 → ⊥) → k ≡ length (line_of 6 (refusal ∷ [])) → k ≡ length (reply p table)
-  refused_long h e = e ∙ ap length (refused h)
+    pub refused_long : {k : ℕ} → k ≡ length (line_of 6 (refusal ∷ [])) → k ≡ length (reply p table)
+    refused_long e = e ∙ ap length refused
 
-  pub refused_left : (before now : List ℕ) → (refusal ≡ 0 → ⊥) → now ≡ in_front (line_of 6 (refusal ∷ [])) before
-      → now ≡ in_front (reply p table) before
-  refused_left before now h e = e ∙ ap (λ l. in_front l before) (refused h)
+    pub refused_left : (before now : List ℕ) → now ≡ in_front (line_of 6 (refusal ∷ [])) before → now ≡ in_front (reply p table) before
+    refused_left before now e = e ∙ ap (λ l. in_front l before) refused
 
   -- accepted
   module _ (z : refusal ≡ 0) (width : ℕ) (wide : width ≡ max p.n p.m) where

@@ -1,34 +1,19 @@
 -- Numbers above 255, the longest print, and how much of the input decides: promises of specs/Promises.antt and specs/Wide.antt, proved.
-use mathlib.Core.Path.{◌≡◌, refl, sym, ◌∙◌}
-use mathlib.Core.Bool.{Bool, true, false, ◌||◌, cond, true≢false}
+use mathlib.Core.Path.{◌≡◌, refl}
+use mathlib.Core.Bool.{Bool, true, false, cond}
 use mathlib.Core.List.{List, [], ◌∷◌}
-use Prim.Native.Nat.{ℕ, ◌^◌, ◌≤◌, ◌<◌}
-use native.Mathlib.Nat.{lt_of_lt_of_le}
+use Prim.Native.Nat.{ℕ, ◌≤◌}
 use native.Mathlib.Omega.{arith}
 use borrow.Author.Tests.{eqb-true}
 use lib.Dec.{eqb}
 use lib.ListN.{length}
-use lib.Pow.{pow_mono}
-use Rattle.bits.specs.Xor.{◌⊕◌}
-use Rattle.refusals.specs.Checks.{first_of}
-use Rattle.refusals.specs.Tests.{outside, any_from}
-use Rattle.refusals.proofs.Tests.{one_below, none_below}
-use Rattle.table.specs.Balanced.{at, count_of}
-use Rattle.table.specs.Fit.{occurs, each_value, equally_often, closed, fit}
-use Rattle.table.specs.Refusals.{table_checks}
-use Rattle.table.proofs.Balanced.{none_from}
-use Rattle.wide_table.specs.Wide.{wide}
-use Rattle.wide_table.specs.Promises.{WideSix}
-use Rattle.wide_table.proofs.Promises.{wide_six}
 use Rattle.lookup.specs.declared.Case.{Case}
-use Rattle.lookup.specs.Case.{Q}
-use Rattle.lookup.specs.Methods.{among, found, known, method_of}
 use Rattle.lookup.specs.Call.{answer, log_of, log_length}
-use Rattle.lookup.specs.Refusals.{case_refusal, case_checks, box_checks, method_checks, mask_checks, untaken}
-use Rattle.lookup.specs.Promises.{MethodsKnown, LogLong}
-use Rattle.lookup.proofs.Accepted.{accepted, accepted_bounded}
+use Rattle.lookup.specs.Refusals.{case_refusal}
+use Rattle.lookup.specs.Promises.{LogLong}
+use Rattle.lookup.proofs.Accepted.{accepted}
 use Rattle.lookup.proofs.Sizes.{log_most}
-use Rattle.lookup.proofs.Promises.{taken_right, methods_known, log_long}
+use Rattle.lookup.proofs.Promises.{log_long}
 use Rattle.case_sheet.specs.Edition.{six_columns}
 use Rattle.case_sheet.proofs.Promises.{front_answers}
 use Rattle.case_sheet.specs.Sheet.{numbers_of, table_of, well_formed, case_read}
@@ -38,48 +23,22 @@ use Rattle.log_print.proofs.Entries.{answer_long}
 use Rattle.sheet.specs.Print.{reply, print_in, print}
 use Rattle.sheet.specs.Wide.{WideWorked}
 use Rattle.sheet.specs.Promises.{WideRefused, WideEntry, PrintMost, FrontPrinted}
-use Rattle.sheet.proofs.Prints.{wide_case}
+use Rattle.sheet_call.specs.Wide.{WideWorked as CallWideWorked}
+use Rattle.sheet_call.specs.Promises.{WideRefused as CallWideRefused, WideEntry as CallWideEntry}
+use Rattle.sheet_call.proofs.Promises.{wide_worked as call_wide_worked, wide_refused as call_wide_refused, wide_entry as call_wide_entry}
 
+-- of the call of a sheet
 pub wide_worked : WideWorked
-unfolding WideWorked case_refusal case_checks box_checks method_checks mask_checks untaken first_of outside any_from at count_of occurs
-    each_value equally_often closed fit table_checks Q among found known method_of ◌⊕◌
-wide_worked = refl
-
--- a method that there is has a small number
-method_small : (method : ℕ) → known method ≡ true → method < 256
-unfolding MethodsKnown
-method_small method e = method_small_by_cases (eqb method 2) (eqb method 3) (eqb method 5) refl refl refl (sym (methods_known method) ∙ e)
-  where
-    method_small_by_cases : (s t u : Bool) → eqb method 2 ≡ s → eqb method 3 ≡ t → eqb method 5 ≡ u → (s || (t || u)) ≡ true → method < 256
-    method_small_by_cases true t u p q r e = omega (arith, eqb-true method 2 p)
-    method_small_by_cases false true u p q r e = omega (arith, eqb-true method 3 q)
-    method_small_by_cases false false true p q r e = omega (arith, eqb-true method 5 r)
-    method_small_by_cases false false false p q r e = absurd (true≢false (sym e))
+unfolding WideWorked CallWideWorked
+wide_worked = call_wide_worked
 
 pub wide_refused : WideRefused
-unfolding WideRefused
-wide_refused table c e =
-    let taken = accepted c table e in
-    let k = accepted_bounded _ c table (taken_right c table taken).bit taken.1 in
-    let t = taken.1.table in
-    let below : (v : ℕ) → v < 2 ^ c.n → v < 256 = λ v h. lt_of_lt_of_le h k.size in
-    let small : 2 ^ c.m ≤ 2 ^ 8 = pow_mono t.output_most in
-    let one : (x : ℕ) (xs : List ℕ) → x < 256 → any_from 256 xs ≡ false → any_from 256 (x ∷ xs) ≡ false = one_below 256 in (
-      one _ _ (method_small c.method taken.0)
-          (one _ _ (omega (arith, t.input_most))
-          (one _ _ (omega (arith, t.output_most))
-          (one _ _ (below _ k.x0)
-          (one _ _ (below _ k.r1)
-          (one _ _ (below _ k.r2) (one _ _ k.s1 (one _ _ k.s2 (one _ _ (below _ k.r3) (one _ _ (omega (arith, k.b))
-          (none_below 256)))))))))),
-      none_from 256 table (λ i. omega (arith, t.small i, small)),
-    )
+unfolding WideRefused CallWideRefused
+wide_refused = call_wide_refused
 
 pub wide_entry : WideEntry
-unfolding WideEntry WideSix wide
-wide_entry table c some method input output long =
-    let six = wide_six c.method c.n c.m table some method input output long in
-    sym (wide_case c table (λ z. omega (arith, six))) ∙ six
+unfolding WideEntry CallWideEntry
+wide_entry = call_wide_entry
 
 -- a reply has a line, or a line for each entry of the log and one more
 reply_most : (c : Case) (table : List ℕ) → length (reply 6 c table) ≤ 43985

@@ -1,37 +1,36 @@
 -- `sheet::print` meets its contract.
-use Rattle.sheet.proofs.Prints.{entries_lent, entries_within, refused_long, refused_left, not_wide, bytes_room}
-use Rattle.sheet.proofs.Prints.{bytes_lent, bytes_within, answer_long, answer_left}
+use Rattle.case_sheet.specs.Edition.{six_columns}
+use Rattle.sheet_call.proofs.Replies.{entries_lent, count_within, few_lent}
+use Rattle.sheet_call.proofs.Printed.{refused_long, refused_left, accepted_long, accepted_left}
+use Rattle.sheet.specs.Print.{print}
+use Rattle.sheet.proofs.Prints.{printed, answer_room, answered}
 use Rattle.sheet.proofs.print.Goals as goal
 
-pub slice_bounds-table-end : goal.slice_bounds-table-end
-slice_bounds-table-end c = search entries_within
+pub slice_bounds-log-end : goal.slice_bounds-log-end
+slice_bounds-log-end c = search (count_within, c.in-Ok.ensures.value)
 
-pub slice_bounds-wide_refusal-end : goal.slice_bounds-wide_refusal-end
-slice_bounds-wide_refusal-end c = search entries_lent
+pub slice_bounds-entries-end : goal.slice_bounds-entries-end
+slice_bounds-entries-end c = search (entries_lent, c.in-Ok.ensures.value)
 
-pub returns-then-refusal-ne0-clause-value : goal.returns-then-refusal-ne0-clause-value
-returns-then-refusal-ne0-clause-value c = search refused_long
+pub put_answer-requires : goal.put_answer-requires
+put_answer-requires c = (search (few_lent, c.in-Ok.ensures.value), search (answer_room, c.in-Ok.ensures.value))
 
-pub returns-then-refusal-ne0-clause-output_after : goal.returns-then-refusal-ne0-clause-output_after
-returns-then-refusal-ne0-clause-output_after c = search refused_left
+pub returns-in-Ok-clause-value : goal.returns-in-Ok-clause-value
+unfolding print
+returns-in-Ok-clause-value c =
+    rw (printed six_columns 6 c.args.input.now) (search (accepted_long, answered, c.in-Ok.ensures.value))
 
-pub slice_bounds-table-end-2 : goal.slice_bounds-table-end-2
-slice_bounds-table-end-2 c = search entries_within
+pub returns-in-Ok-clause-output_after : goal.returns-in-Ok-clause-output_after
+unfolding print
+returns-in-Ok-clause-output_after c =
+    rw (printed six_columns 6 c.args.input.now) (search (accepted_left, answered, c.in-Ok.ensures.value))
 
-pub slice_bounds-narrow-end : goal.slice_bounds-narrow-end
-slice_bounds-narrow-end c = search entries_lent
+pub returns-in-Err-clause-value : goal.returns-in-Err-clause-value
+unfolding print
+returns-in-Err-clause-value c =
+    rw (printed six_columns 6 c.args.input.now) (search (refused_long, c.in-Err.ensures.value))
 
-pub narrow-requires : goal.narrow-requires
-narrow-requires c = (search not_wide, search bytes_room)
-
-pub slice_bounds-bytes-end : goal.slice_bounds-bytes-end
-slice_bounds-bytes-end c = search bytes_within
-
-pub slice_bounds-reply-end : goal.slice_bounds-reply-end
-slice_bounds-reply-end c = search bytes_lent
-
-pub returns-clause-value : goal.returns-clause-value
-returns-clause-value c = search answer_long
-
-pub returns-clause-output_after : goal.returns-clause-output_after
-returns-clause-output_after c = search answer_left
+pub returns-in-Err-clause-output_after : goal.returns-in-Err-clause-output_after
+unfolding print
+returns-in-Err-clause-output_after c =
+    rw (printed six_columns 6 c.args.input.now) (search (refused_left, c.in-Err.ensures.value))
