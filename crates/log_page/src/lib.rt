@@ -2,7 +2,7 @@
 // kinds are known, so the functions here have a `requires`.
 #![tactic(auto)]
 
-ghost use Rattle.std.specs.Prelude.{◌≡◌, false, map, ◌+◌, ◌*◌, ◌-◌, ◌≤◌, ◌<◌, length, replicate};
+ghost use Rattle.std.specs.Prelude.{◌≡◌, false, map, ◌+◌, ◌*◌, ◌-◌, ◌≤◌, length};
 ghost use Rattle.refusals.specs.Tests.{any_from};
 ghost use Rattle.buffers.specs.Written.{written, in_front};
 ghost use Rattle.lookup.specs.Entry.{kind_of, kind_limit};

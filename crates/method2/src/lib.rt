@@ -2,7 +2,7 @@
 // The calls have checked the case and measured the buffers, so the runs have a `requires`.
 #![tactic(auto)]
 
-ghost use Rattle.std.specs.Prelude.{◌≡◌, ◌^◌, ◌≤◌, ◌<◌, length};
+ghost use Rattle.std.specs.Prelude.{◌≡◌, ◌^◌, ◌≤◌, length};
 ghost use Rattle.lookup.specs.Case.{Q};
 ghost use Rattle.lookup.specs.Bounded.{Bounded};
 ghost use Rattle.lookup.specs.Method2.{r_prime as method2_r_prime, scratch_2, answer_2};

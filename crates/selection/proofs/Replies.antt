@@ -1,5 +1,5 @@
 -- What both calls hand back and leave, from what the checks and the runs told.
-use mathlib.Core.Path.{◌≡◌, refl, sym, ◌∙◌}
+use mathlib.Core.Path.{◌≡◌, refl, ◌∙◌}
 use mathlib.Core.List.{List}
 use Prim.Native.Nat.{ℕ, zero, suc}
 use Rattle.refusals.proofs.Left.{left_refused, left_accepted}

@@ -1,5 +1,4 @@
 -- `count_sheet::checks::refused` meets its contract.
-use borrow.Author.Rules.{rules}
 use Rattle.refusals.proofs.Numbers.{not_zero, handed_on}
 use Rattle.count_sheet.proofs.Checking.{input_most, pair_refused, buffers_refused, sheet_refused}
 use Rattle.count_sheet.proofs.checks.refused.Goals as goal

@@ -1,5 +1,4 @@
 -- `selection::checks::refused` meets its contract.
-use mathlib.Core.Path.{refl}
 use Rattle.refusals.proofs.Numbers.{not_zero, handed_on}
 use Rattle.selection.proofs.Checking.{at_20, width_small, at_words, at_bits, at_masks}
 use Rattle.selection.proofs.checks.refused.Goals as goal
