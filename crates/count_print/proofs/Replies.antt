@@ -5,8 +5,6 @@ use Prim.Native.Nat.{ℕ, max, ◌+◌, ◌*◌, ◌^◌, ◌≤◌, ◌<◌}
 use native.Mathlib.Nat.{mul-le-mul}
 use native.Mathlib.Omega.{arith}
 use borrow.Author.Tests.{eq-eqb, ne_eqb}
-use mir.Syntax.{w64}
-use mir.Val.{Fits}
 use lib.ListN.{length, take, replicate, length-take}
 use lib.Seq.{take_at}
 use Rattle.buffers.specs.Written.{in_front}
@@ -58,9 +56,6 @@ module _ (p : ProbePair) (table : List ℕ) (refusal : ℕ)
 
       square_most : side * side ≤ 64
       square_most = mul-le-mul few few
-
-      pub square_fits : Fits w64 (side * side)
-      square_fits = record { fits = omega (arith, square_most) }
 
       pub lines_room : (output : List ℕ) → length output ≡ 1024 → side * (8 * side + 1) ≤ length output
       lines_room output l =

@@ -76,7 +76,9 @@ module _ (log before : List ℕ) where
         let told : next ≡ written now (81 * k) (line_at log k) = w ∙ rw (t, parts.0, s.left) in
         let more : 5 * k + 5 ≡ 5 * (k + 1) = omega arith in
         rw c (record {
-          stack = stacking_turns 0 81 _ (line_at log) before now k s.stack next (81 * k) (λ i h. line_long log i) (omega (arith, sizes)) (omega arith) (omega arith) told;
+          stack =
+              stacking_turns 0 81 _ (line_at log) before now k s.stack next (81 * k) (λ i h. line_long log i)
+              (omega (arith, sizes)) (omega arith) (omega arith) told;
           left = parts.1 ∙ rw s.left (drop-drop 5 (5 * k) log ∙ ap (λ n. drop n log) more);
           five = f ∙ s.five;
         })
