@@ -39,11 +39,11 @@ fn convert(input: &[u8], from: Edition, to: Edition, output: &mut [u8; 2048]) ->
     let mut numbers = [0u32; 10];
     let mut table = [0u32; 256];
     let Some(entries) = case_sheet::read_numbers(input, from, &mut numbers, &mut table) else {
-        return log_print::put_refusal(output, Refusal::MalformedInput);
+        return log_print::put_refusal(output, Refusal::MalformedInput.number());
     };
     let table = &table[..entries];
     if any_above(to.most, &numbers, table) {
-        return log_print::put_refusal(output, Refusal::LargeNumber);
+        return log_print::put_refusal(output, Refusal::LargeNumber.number());
     }
     put_sheet(output, to.columns, &numbers, table)
 }

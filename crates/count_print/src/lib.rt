@@ -18,12 +18,12 @@ pub fn print(input: &[u8], output: &mut [u8; 1024]) -> usize
     let six_columns = case_sheet::six_columns();
     let Some(entries) = case_sheet::read_numbers(input, six_columns, &mut numbers, &mut table)
     else {
-        return log_print::put_refusal(output, Refusal::MalformedInput);
+        return log_print::put_refusal(output, Refusal::MalformedInput.number());
     };
     let pair = pair_from(numbers);
     let table = &table[..entries];
     if let Err(refusal) = wide_table::wide_refusal(pair.method, pair.n, pair.m, table) {
-        return log_print::put_refusal(output, refusal);
+        return log_print::put_refusal(output, refusal.number());
     }
     let mut bytes = [0u8; 256];
     wide_table::narrow(table, &mut bytes);
@@ -61,7 +61,7 @@ fn reply(pair: ProbePair, table: &[u8], output: &mut [u8; 1024]) -> usize
         &mut log,
         &mut sheet,
     ) {
-        return log_print::put_refusal(output, refusal);
+        return log_print::put_refusal(output, refusal.number());
     }
     let side = bits::power(pair.n.max(pair.m)) as usize;
     log_print::put_counts(output, &sheet[..side * side], side)

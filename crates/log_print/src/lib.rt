@@ -3,23 +3,20 @@
 #![tactic(auto)]
 
 ghost use Rattle.std.specs.Prelude.{◌≡◌, [], ◌∷◌, ◌+◌, ◌*◌, ◌≤◌, ◌<◌, length};
-ghost use Rattle.refusals.specs.Numbers.{number_of};
 ghost use Rattle.buffers.specs.Written.{written, in_front};
 ghost use Rattle.lookup.specs.Entry.{kind_of, value_of};
 ghost use Rattle.log_print.specs.Lines.{line_of, column_of, entry_lines, answer_lines, count_lines};
-
-use refusals::Refusal;
 
 // How many columns a number of a log, an answer or a refusal has.
 const COLUMNS: usize = 6;
 
 // A refusal's number is the only line. Returns the count of bytes.
-pub fn put_refusal(output: &mut [u8], refusal: Refusal) -> usize
+pub fn put_refusal(output: &mut [u8], refusal: u32) -> usize
     requires { 7 ≤ length output.old }
-    ensures value { result ≡ length (line_of 6 (number_of refusal ∷ [])) }
-    ensures output_after { output.new ≡ in_front (line_of 6 (number_of refusal ∷ [])) output.old }
+    ensures value { result ≡ length (line_of 6 (refusal ∷ [])) }
+    ensures output_after { output.new ≡ in_front (line_of 6 (refusal ∷ [])) output.old }
 {
-    put_line(output, 0, COLUMNS, &[refusal.number()]);
+    put_line(output, 0, COLUMNS, &[refusal]);
     COLUMNS + 1
 }
 

@@ -14,6 +14,6 @@ pub fn print(input: &[u8], output: &mut [u8; 40960]) -> usize
     let mut log = [0u32; 2400];
     match sheet_call::answer(input, &mut log) {
         Ok(answered) => log_page::put_page(output, &log[..answered.count as usize]),
-        Err(refusal) => log_print::put_refusal(output, refusal),
+        Err(refusal) => log_print::put_refusal(output, refusal.number()),
     }
 }

@@ -19,6 +19,6 @@ pub fn print(input: &[u8], output: &mut [u8; 45056]) -> usize
             let entries = &log[..count as usize];
             log_print::put_answer(output, entries, share, count)
         }
-        Err(refusal) => log_print::put_refusal(output, refusal),
+        Err(refusal) => log_print::put_refusal(output, refusal.number()),
     }
 }

@@ -20,13 +20,17 @@ module _ (input lines : List ℕ) where
         number_alone 6 (number_of refusal) lines (not_zero refusal)
         ∙ ap (λ k. unless_refused 6 k lines) (refused_number input (number_of refusal) told)
 
-    pub refused_long : {k : ℕ} → k ≡ length (line_of 6 (number_of refusal ∷ []))
-        → k ≡ length (unless_refused 6 (sheet_refusal six_columns input) lines)
-    refused_long e = e ∙ ap length refused
+    -- by its number, as the code told it
+    module _ (n : ℕ) (number : n ≡ number_of refusal) where
+      its_line : line_of 6 (n ∷ []) ≡ unless_refused 6 (sheet_refusal six_columns input) lines
+      its_line = rw number refused
 
-    pub refused_left : (before now : List ℕ) → now ≡ in_front (line_of 6 (number_of refusal ∷ [])) before
-        → now ≡ in_front (unless_refused 6 (sheet_refusal six_columns input) lines) before
-    refused_left before now e = e ∙ ap (λ l. in_front l before) refused
+      pub refused_long : {k : ℕ} → k ≡ length (line_of 6 (n ∷ [])) → k ≡ length (unless_refused 6 (sheet_refusal six_columns input) lines)
+      refused_long e = e ∙ ap length its_line
+
+      pub refused_left : (before now : List ℕ) → now ≡ in_front (line_of 6 (n ∷ [])) before
+          → now ≡ in_front (unless_refused 6 (sheet_refusal six_columns input) lines) before
+      refused_left before now e = e ∙ ap (λ l. in_front l before) its_line
 
   -- what was made of the log that was left is what should be made of the log
   module _ (s n : ℕ) (told : record { refusal = 0; share = s; count = n } ≡ reply input) (made : List ℕ) (same : made ≡ lines) where
