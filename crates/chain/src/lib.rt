@@ -3,16 +3,13 @@
 #![tactic(auto)]
 
 ghost use Rattle.std.specs.Prelude.{◌≡◌};
-ghost use Rattle.lookup.specs.Refusals.{logged_refusal};
-ghost use Rattle.calls.specs.Reply.{logged_reply, logged_scratch, logged_log};
 ghost use Rattle.refusals.specs.Numbers.{refusal_of};
-ghost use Rattle.lookup.specs.Called.{handed_call};
 ghost use Rattle.chain.specs.Chained.{handed_chain};
 ghost use Rattle.chain.specs.Lent.{lent};
 ghost use Rattle.chain.specs.Chain.{second_case as chain_second_case, chain_refusal, chain_reply};
 ghost use Rattle.chain.specs.Chain.{chain_first_scratch, chain_second_scratch, chain_first_log, chain_second_log};
 
-use lookup::{Answered, Case};
+use lookup::Case;
 use refusals::Refusal;
 
 // What the second call has of its own: its method and widths, its output masks, r3 and b.
@@ -33,6 +30,14 @@ pub struct ChainAnswered {
     pub share: u32,
     pub first_count: u32,
     pub second_count: u32,
+}
+
+// What the checks of one of the calls look at.
+#[derive(Clone, Copy)]
+struct Buffers<'a> {
+    table: &'a [u8],
+    scratch: &'a [u8],
+    log: &'a [u32],
 }
 
 // Both lookups. As the logged call it is for the bench: it returns the second answer share and the counts of both logs' entries. All checks of
@@ -58,88 +63,29 @@ pub fn chained_call(
     ensures second_log_after { second_log.new ≡ chain_second_log first second (lent first_table.now second_table.now
         first_scratch.old second_scratch.old first_log.old second_log.old) }
 {
-    refused(
-        first,
-        second,
-        first_table,
-        second_table,
-        first_scratch,
-        second_scratch,
-        first_log,
-        second_log,
-    )?;
-    Ok(run_both(
-        first,
-        second,
-        first_table,
-        second_table,
-        first_scratch,
-        second_scratch,
-        first_log,
-        second_log,
-    ))
-}
-
-// Both runs of an accepted chain. The checks have been made, so it has a `requires`.
-fn run_both(
-    first: Case,
-    second: Second,
-    first_table: &[u8],
-    second_table: &[u8],
-    first_scratch: &mut [u8],
-    second_scratch: &mut [u8],
-    first_log: &mut [u32],
-    second_log: &mut [u32],
-) -> ChainAnswered
-    requires { chain_refusal first second (lent first_table.now second_table.now first_scratch.old second_scratch.old
-        first_log.old second_log.old) ≡ 0 }
-    ensures value { handed_chain (Ok result) ≡ chain_reply first second (lent first_table.now second_table.now first_scratch.old
-        second_scratch.old first_log.old second_log.old) }
-    ensures first_scratch_after { first_scratch.new ≡ chain_first_scratch first second (lent first_table.now second_table.now
-        first_scratch.old second_scratch.old first_log.old second_log.old) }
-    ensures second_scratch_after { second_scratch.new ≡ chain_second_scratch first second (lent first_table.now second_table.now
-        first_scratch.old second_scratch.old first_log.old second_log.old) }
-    ensures first_log_after { first_log.new ≡ chain_first_log first second (lent first_table.now second_table.now
-        first_scratch.old second_scratch.old first_log.old second_log.old) }
-    ensures second_log_after { second_log.new ≡ chain_second_log first second (lent first_table.now second_table.now
-        first_scratch.old second_scratch.old first_log.old second_log.old) }
-{
+    let first_lent = Buffers {
+        table: first_table,
+        scratch: first_scratch,
+        log: first_log,
+    };
+    let second_lent = Buffers {
+        table: second_table,
+        scratch: second_scratch,
+        log: second_log,
+    };
+    refused(first, second, first_lent, second_lent)?;
     let one = calls::run_accepted(first, first_table, first_scratch, first_log);
-    let two = run_second(
-        first,
-        second,
-        one.share,
-        second_table,
-        second_scratch,
-        second_log,
-    );
-    ChainAnswered {
+    let later = second_case(first, second, one.share);
+    let two = calls::run_accepted(later, second_table, second_scratch, second_log);
+    Ok(ChainAnswered {
         share: two.share,
         first_count: one.count,
         second_count: two.count,
-    }
-}
-
-// The second's run, where the first has answered with the share.
-fn run_second(
-    first: Case,
-    second: Second,
-    share: u32,
-    table: &[u8],
-    scratch: &mut [u8],
-    log: &mut [u32],
-) -> Answered
-    requires { logged_refusal (chain_second_case first second share) table.now scratch.old log.old ≡ 0 }
-    ensures value { handed_call (Ok result) ≡ logged_reply (chain_second_case first second share) table.now scratch.old log.old }
-    ensures scratch_after { scratch.new ≡ logged_scratch (chain_second_case first second share) table.now scratch.old
-        log.old }
-    ensures log_after { log.new ≡ logged_log (chain_second_case first second share) table.now scratch.old
-        log.old }
-{
-    calls::run_accepted(second_case(first, second, share), table, scratch, log)
+    })
 }
 
 // The second call's case, where the first has answered with the share.
+#[tactic(auto, unfolding(crate::specs::Chain::second_case))]
 fn second_case(first: Case, second: Second, share: u32) -> Case
     ensures { result ≡ chain_second_case first second share }
 {
@@ -159,25 +105,23 @@ fn second_case(first: Case, second: Second, share: u32) -> Case
 
 // Both tables' 2 to 7; 18; the first's 10 to 13, 19 and 14; the second's. The first has not answered yet, so the second's are asked of a
 // share of 0: an answer is never too large.
+#[tactic(auto, using(call_checks::proofs::Checking::input_most, call_checks::proofs::Checking::output_most))]
 fn refused(
     first: Case,
     second: Second,
-    first_table: &[u8],
-    second_table: &[u8],
-    first_scratch: &[u8],
-    second_scratch: &[u8],
-    first_log: &[u32],
-    second_log: &[u32],
+    first_lent: Buffers,
+    second_lent: Buffers,
 ) -> Result<(), Refusal>
-    ensures { refusal_of result ≡ chain_refusal first second (lent first_table.now second_table.now first_scratch.now
-        second_scratch.now first_log.now second_log.now) }
+    ensures { refusal_of result ≡ chain_refusal first second
+        (lent first_lent.entry.table.now second_lent.entry.table.now first_lent.entry.scratch.now second_lent.entry.scratch.now
+        first_lent.entry.log.now second_lent.entry.log.now) }
 {
     let later = second_case(first, second, 0);
-    call_checks::refused_box(first, first_table)?;
-    call_checks::refused_box(later, second_table)?;
+    call_checks::refused_box(first, first_lent.table)?;
+    call_checks::refused_box(later, second_lent.table)?;
     if first.m != second.n {
         return Err(Refusal::UnequalWidths);
     }
-    call_checks::refused_other(first, first_scratch, first_log)?;
-    call_checks::refused_other(later, second_scratch, second_log)
+    call_checks::refused_other(first, first_lent.scratch, first_lent.log)?;
+    call_checks::refused_other(later, second_lent.scratch, second_lent.log)
 }
