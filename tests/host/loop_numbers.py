@@ -39,6 +39,7 @@ OF_CORE = {
     "core::iter::base::Iterator::any": "numbers of any length, in no archive",
     "core::fmt::formatter::Formatter::derived_name": "the name of a refusal, in no archive",
     "core::iter::slices::slice+T::iter": "nothing: it has no loop",
+    "core::slice::chunk_mut::slice+T::first_chunk_mut": "nothing: it has no loop",
     "core::convert::U32FromU8::from": "nothing: it has no loop",
     "core::option::Option::is_some": "nothing: it has no loop",
     "core::option::Option::unwrap": "nothing: it has no loop",

@@ -93,13 +93,5 @@ logged_parts s lent e =
     (all_numbered s) e in
     (both.0, ltb-false _ _ (passed (ltb (length lent) 28) 13 [] both.1).0)
 
-module _ (s : Selection) where
-  pub told_bounded : 0 ≡ plain_select_refusal s → Bounded s
-  told_bounded told = plain_bounded s (sym told)
-
-  module _ (lent : List ℕ) (told : 0 ≡ select_refusal s lent) where
-    pub told_logged : Bounded s
-    told_logged = plain_bounded s (logged_parts s lent (sym told)).0
-
-    pub told_long : 28 ≤ length lent
-    told_long = (logged_parts s lent (sym told)).1
+pub told_bounded : (s : Selection) → 0 ≡ plain_select_refusal s → Bounded s
+told_bounded s told = plain_bounded s (sym told)

@@ -1,10 +1,10 @@
 -- How the log is written: the three words, and then part by part.
-use mathlib.Core.Path.{◌≡◌, refl, ◌∙◌}
-use mathlib.Core.List.{List, [], ◌∷◌, ◌++◌}
-use Prim.Native.Nat.{ℕ, ◌-◌, ◌≤◌, ◌<◌}
+use mathlib.Core.Path.{◌≡◌, refl, ap, ◌∙◌}
+use mathlib.Core.List.{List, [], ◌∷◌, ◌++◌, append-nil}
+use Prim.Native.Nat.{ℕ, ◌-◌}
 use native.Mathlib.Omega.{arith}
 use lib.Bits.{bit_xor}
-use lib.ListN.{length, set, length-append, length-set}
+use lib.ListN.{length, set, drop, length-append, drop_of_length-le}
 use Rattle.bits.specs.Xor.{◌⊕◌}
 use Rattle.lookup.specs.Entry.{entry}
 use Rattle.buffers.specs.Written.{written, in_front}
@@ -16,24 +16,13 @@ use Rattle.selection.specs.Log.{bit_values, half_values}
 use Rattle.selection.specs.Log.{input_entries, half_entries, share_entries, log_of}
 use Rattle.selection.specs.Select.{selected}
 
-pub three_written : (log : List ℕ) (u v w e f g : ℕ) → 28 ≤ length log → e ≡ entry 1 u → f ≡ entry 2 v → g ≡ entry 3 w
+pub three_written : (log : List ℕ) (u v w e f g : ℕ) → length log ≡ 28 → e ≡ entry 1 u → f ≡ entry 2 v → g ≡ entry 3 w
     → set (set (set log 0 e) 1 f) 2 g ≡ written log 0 (entries (1 ∷ 2 ∷ 3 ∷ []) (u ∷ v ∷ w ∷ []))
 unfolding written entries
 three_written [] u v w e f g h d k l = absurd (omega arith)
 three_written (x ∷ []) u v w e f g h d k l = absurd (omega arith)
 three_written (x ∷ y ∷ []) u v w e f g h d k l = absurd (omega arith)
 three_written (x ∷ y ∷ z ∷ rest) u v w e f g h d k l = rw (d, k, l)
-
--- the log stays as long as it was, and so long is enough
-pub set_long : (log : List ℕ) (i v : ℕ) → 28 ≤ length log → 28 ≤ length (set log i v)
-set_long log i v h = rw (length-set log i v) h
-
--- the last place of the words
-pub second_place : (log : List ℕ) (v : ℕ) → 28 ≤ length log → 1 < length (set log 0 v)
-second_place log v h = omega (arith, set_long log 0 v h)
-
-pub third_place : (log : List ℕ) (u v : ℕ) → 28 ≤ length log → 2 < length (set (set log 0 u) 1 v)
-third_place log u v h = omega (arith, set_long (set log 0 u) 1 v (set_long log 0 u h))
 
 -- how many entries the parts of the log have
 inputs_long : (s : Selection) → length (input_entries s) ≡ 11
@@ -54,7 +43,7 @@ log_long s =
     length-append (input_entries s ++ half_entries s) (share_entries s)
     ∙ omega (arith, length-append (input_entries s) (half_entries s), inputs_long s, halves_long s, shares_long s)
 
-module _ (s : Selection) (log : List ℕ) (room : 28 ≤ length log) where
+module _ (s : Selection) (log : List ℕ) (size : length log ≡ 28) where
   pub inputs_written : (words next : List ℕ) → words ≡ written log 0 (entries (1 ∷ 2 ∷ 3 ∷ []) (s.z0 ∷ s.z1 ∷ s.z2 ∷ []))
       → next ≡ written words 3 (entries (11 ∷ 4 ∷ 5 ∷ 6 ∷ 7 ∷ 8 ∷ 9 ∷ 10 ∷ []) (bit_values s)) → next ≡ written log 0 (input_entries s)
   unfolding input_entries entries bit_values
@@ -67,16 +56,23 @@ module _ (s : Selection) (log : List ℕ) (room : 28 ≤ length log) where
   halves_written chosen next e f = f ∙ rw e (written_more log 11 18 _ _ refl (omega arith))
 
   pub log_written : (inputs halves next : List ℕ) → inputs ≡ written log 0 (input_entries s) → halves ≡ written inputs 11 (half_entries s)
-      → next ≡ written halves 25 (share_entries s) → next ≡ in_front (log_of s) log
-  unfolding log_of
+      → next ≡ written halves 25 (share_entries s) → next ≡ log_of s
+  unfolding log_of in_front
   log_written inputs halves next e f g =
       let one = inputs_long s in
       let two = halves_long s in
       let three = shares_long s in
       let four = length-append (input_entries s) (half_entries s) in
+      let none_left : drop (length (input_entries s ++ half_entries s ++ share_entries s)) log ≡ []
+      = drop_of_length-le log (omega (arith, log_long s)) in
       g ∙ rw (f, e, written_more log 0 11 (input_entries s) (half_entries s) (omega (arith, one)) (omega (arith, two)))
       (written_more log 0 25 (input_entries s ++ half_entries s) (share_entries s) (omega (arith, one, two, four)) (omega (arith, three)))
-      ∙ written_front log _
+      ∙ written_front log _ ∙ ap (λ rest. (input_entries s ++ half_entries s ++ share_entries s) ++ rest) none_left ∙ append-nil _
+
+-- and what stood behind the 28 entries in front still stands there
+pub front_written : (s : Selection) (lent front : List ℕ) → front ≡ log_of s → front ++ drop 28 lent ≡ in_front (log_of s) lent
+unfolding in_front
+front_written s lent front e = rw (e, log_long s)
 
 -- the values of a half, from the three halves
 pub values_of : (s : Selection) (bit p q r : ℕ) → p ≡ half s.width bit s.z0 → q ≡ half s.width bit s.z1

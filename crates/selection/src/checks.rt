@@ -2,21 +2,10 @@
 ghost use Rattle.refusals.specs.Numbers.{refusal_of};
 ghost use Rattle.std.specs.Prelude.{◌≡◌, ◌≤◌};
 ghost use Rattle.refusals.specs.Checks.{first_of};
-ghost use Rattle.selection.specs.Select.{word_checks, bit_checks, mask_checks, plain_select_refusal, select_refusal};
+ghost use Rattle.selection.specs.Select.{word_checks, bit_checks, mask_checks, plain_select_refusal};
 
 use halves::Selection;
 use refusals::Refusal;
-
-// 20, 21 and 14
-pub fn refused_logged(selection: Selection, log: &[u32]) -> Result<(), Refusal>
-    ensures { refusal_of result ≡ select_refusal selection log.now }
-{
-    refused(selection)?;
-    if log.len() < 28 {
-        return Err(Refusal::ShortLog);
-    }
-    Ok(())
-}
 
 // 20 and 21
 pub fn refused(selection: Selection) -> Result<(), Refusal>

@@ -51,8 +51,11 @@ pub fn select(
         t2,
         b,
     };
-    checks::refused_logged(selection, log)?;
-    Ok(logged::run(BoundedSelection { selection }, log))
+    checks::refused(selection)?;
+    let Some(front) = log.first_chunk_mut() else {
+        return Err(Refusal::ShortLog);
+    };
+    Ok(logged::run(BoundedSelection { selection }, front))
 }
 
 // The same choice without a log. Accepted, it puts each share of the half in a place of its own.

@@ -1,8 +1,7 @@
-// The run with a log: the same choice, and every value that it handles stands in the log. The calls have measured the log, so those that write
-// have a `requires`.
+// The run with a log: the same choice, and every value that it handles stands in the log, each entry at its fixed position.
 ghost use Rattle.selection.specs.Selected.{handed_selection};
-ghost use Rattle.std.specs.Prelude.{◌≡◌, [], ◌∷◌, ◌+◌, ◌≤◌, ◌<◌, length};
-ghost use Rattle.buffers.specs.Written.{written, in_front};
+ghost use Rattle.std.specs.Prelude.{◌≡◌, [], ◌∷◌, ◌+◌, ◌≤◌, ◌<◌};
+ghost use Rattle.buffers.specs.Written.{written};
 ghost use Rattle.log_entries.specs.Entries.{entries};
 ghost use Rattle.halves.specs.Halves.{share};
 ghost use Rattle.selection.specs.Log.{bit_values as log_bit_values, half_values as log_half_values, input_entries, half_entries, share_entries, log_of};
@@ -20,26 +19,23 @@ const OTHER: [u8; 7] = [19, 20, 21, 22, 23, 25, 26];
 
 const END: [u8; 3] = [27, 28, 29];
 
-pub fn run(checked: BoundedSelection, log: &mut [u32]) -> HalfShares
-    requires in_bounds { 28 ≤ length log.old }
+pub fn run(checked: BoundedSelection, log: &mut [u32; 28]) -> HalfShares
     ensures value { handed_selection (Ok result) ≡ selected 0 (share 0 checked.selection) (share 1 checked.selection) (share 2 checked.selection) }
-    ensures log_after { log.new ≡ in_front (log_of checked.selection) log.old }
+    ensures log_after { log.new ≡ log_of checked.selection }
 {
     put_inputs(checked, log);
     put_halves(checked, log);
     put_shares(checked, log)
 }
 
-fn put_inputs(checked: BoundedSelection, log: &mut [u32])
-    requires in_bounds { 28 ≤ length log.old }
+fn put_inputs(checked: BoundedSelection, log: &mut [u32; 28])
     ensures { log.new ≡ written log.old 0 (input_entries checked.selection) }
 {
     put_words(checked, log);
     put_bits(checked, log);
 }
 
-fn put_halves(checked: BoundedSelection, log: &mut [u32])
-    requires in_bounds { 28 ≤ length log.old }
+fn put_halves(checked: BoundedSelection, log: &mut [u32; 28])
     ensures { log.new ≡ written log.old 11 (half_entries checked.selection) }
 {
     let selection = checked.selection;
@@ -48,8 +44,7 @@ fn put_halves(checked: BoundedSelection, log: &mut [u32])
 }
 
 // Words have up to sixteen bits; all other values are bytes.
-fn put_words(checked: BoundedSelection, log: &mut [u32])
-    requires in_bounds { 28 ≤ length log.old }
+fn put_words(checked: BoundedSelection, log: &mut [u32; 28])
     ensures { log.new ≡ written log.old 0
         (entries (1 ∷ 2 ∷ 3 ∷ []) (checked.selection.z0 ∷ checked.selection.z1 ∷ checked.selection.z2 ∷ [])) }
 {
@@ -60,8 +55,7 @@ fn put_words(checked: BoundedSelection, log: &mut [u32])
 }
 
 // The shares of the bit, the masks, and the place that they give a half.
-fn put_bits(checked: BoundedSelection, log: &mut [u32])
-    requires in_bounds { 28 ≤ length log.old }
+fn put_bits(checked: BoundedSelection, log: &mut [u32; 28])
     ensures { log.new ≡ written log.old 3
         (entries (11 ∷ 4 ∷ 5 ∷ 6 ∷ 7 ∷ 8 ∷ 9 ∷ 10 ∷ []) (log_bit_values checked.selection)) }
 {
@@ -70,9 +64,15 @@ fn put_bits(checked: BoundedSelection, log: &mut [u32])
 }
 
 // What is made of the half that the bit chooses.
-fn put_half(checked: BoundedSelection, bit: u32, log: &mut [u32], position: usize, kinds: [u8; 7])
+fn put_half(
+    checked: BoundedSelection,
+    bit: u32,
+    log: &mut [u32; 28],
+    position: usize,
+    kinds: [u8; 7],
+)
     requires bit_bound { bit < 2 }
-    requires position_in_bounds { position + 7 ≤ length log.old }
+    requires position_in_bounds { position + 7 ≤ 28 }
     ensures { log.new ≡ written log.old position (entries kinds (log_half_values checked.selection bit)) }
 {
     let values = half_values(checked, bit);
@@ -118,8 +118,7 @@ fn half_values(checked: BoundedSelection, bit: u32) -> [u8; 7]
 }
 
 // The shares of the half, by the run without a log, and what the call hands back.
-fn put_shares(checked: BoundedSelection, log: &mut [u32]) -> HalfShares
-    requires in_bounds { 28 ≤ length log.old }
+fn put_shares(checked: BoundedSelection, log: &mut [u32; 28]) -> HalfShares
     ensures value { handed_selection (Ok result) ≡ selected 0 (share 0 checked.selection) (share 1 checked.selection) (share 2 checked.selection) }
     ensures log_after { log.new ≡ written log.old 25 (share_entries checked.selection) }
 {
