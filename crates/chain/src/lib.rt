@@ -32,7 +32,7 @@ pub struct ChainAnswered {
     pub second_count: u32,
 }
 
-// What the checks of one of the calls look at.
+// What is lent to one of the calls, as its checks look at it.
 #[derive(Clone, Copy)]
 struct Buffers<'a> {
     table: &'a [u8],

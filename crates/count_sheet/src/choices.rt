@@ -1,5 +1,5 @@
 // The runs of a count: every choice of masks by its number, whose bits are the masks. The call has checked the probes and measured the
-// buffers, so the functions here have a `requires`.
+// buffers, which most functions here require.
 ghost use Rattle.std.specs.Prelude.{◌≡◌, true, ◌+◌, ◌*◌, ◌^◌, ◌≤◌, ◌<◌, length, replicate};
 ghost use Rattle.counting.specs.Choice.{total as choice_total};
 ghost use Rattle.counting.specs.Numbered.{numbered, choice_of};
@@ -35,7 +35,8 @@ pub fn count_all(
     }
 }
 
-// Makes the logged call of one choice, on scratch that is cleared, and counts the values that its log shows.
+// Makes the logged call of one choice, on scratch that is cleared, and counts the values that its log shows. The call is accepted, so
+// its answer tells nothing here.
 #[tactic(auto, using(crate::proofs::Running::one_choice))]
 fn count(
     pair: ProbePair,
