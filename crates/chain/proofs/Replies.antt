@@ -5,6 +5,7 @@ use Prim.Native.Nat.{ℕ, zero, suc}
 use Rattle.std.specs.Prelude.{Ok}
 use Rattle.refusals.specs.Left.{left}
 use Rattle.refusals.proofs.Left.{left_refused, left_accepted}
+use Rattle.refusals.proofs.Numbers.{not_zero}
 use Rattle.lookup.specs.declared.Case.{Case}
 use Rattle.lookup.specs.declared.Answered.{Answered}
 use Rattle.lookup.specs.Called.{Called, handed_call}
@@ -113,3 +114,16 @@ module _ (first : Case) (second : Second) (S T scratch scratch' log log' : List 
     unfolding chain_second_log logged_log left
     second_log_left now e =
         e ∙ ap (λ c. logged_log c T scratch' log') is_following ∙ rw both.second_accepted (left_accepted 0 _ _ _ told refl)
+
+-- the lemmas that are found at a goal of the call by what they conclude
+pub ruleset replies = (
+  first_scratch_kept,
+  second_scratch_kept,
+  first_log_kept,
+  second_log_kept,
+  not_zero,
+  first_goes,
+  second_goes,
+  first_scratch_left,
+  first_log_left,
+)

@@ -32,7 +32,7 @@ pub struct ChainAnswered {
     pub second_count: u32,
 }
 
-// What the checks of one of the calls look at.
+// What is lent to one of the calls, as its checks look at it.
 #[derive(Clone, Copy)]
 struct Buffers<'a> {
     table: &'a [u8],
@@ -42,6 +42,7 @@ struct Buffers<'a> {
 
 // Both lookups. As the logged call it is for the bench: it returns the second answer share and the counts of both logs' entries. All checks of
 // both come before anything is written. Both scratches must begin with zeros, and are left used: the caller clears them (`buffers::clear`).
+#[tactic(auto, using(crate::proofs::Replies::replies))]
 pub fn chained_call(
     first: Case,
     second: Second,

@@ -32,5 +32,5 @@ module _ (c : Case) (table scratch : List ℕ) where
 
   -- refused
   module _ (refusal : Refusal) (e : handed_call (Err refusal) ≡ plain_reply c table scratch) where
-    pub number_is : number_of refusal * 256 ≡ exported (plain_reply c table scratch)
-    number_is = omega (arith, result_is _ e)
+    pub number_is : (number : ℕ) → number ≡ number_of refusal → number * 256 ≡ exported (plain_reply c table scratch)
+    number_is number f = omega (arith, result_is _ e)

@@ -103,6 +103,7 @@ pub extern "C" fn cippazhey_encrypt_frame(
     }
 }
 
+#[tactic(auto, unfolding(crate::specs::Export::exported_report, crate::specs::Export::no_fault))]
 #[unsafe(no_mangle)]
 pub extern "C" fn cippazhey_screen(run: &[u8]) -> u64
     ensures { result ≡ exported_report (report run.now) }

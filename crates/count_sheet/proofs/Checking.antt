@@ -176,3 +176,8 @@ module _ (p : ProbePair) (table scratch log sheet : List ℕ) where
         entries = ltb-false _ _ entries.0;
         counts = ltb-false _ _ (passed _ 16 _ positions.1).0;
       }
+
+-- the lemmas that are found at the goals of the checks by what they conclude
+pub ruleset pair_parts = (at_2, at_10, at_pair, pair_input)
+
+pub ruleset sheet_parts = (at_15_n, at_15_m, at_16_first, at_16_second, at_17, at_sheet)

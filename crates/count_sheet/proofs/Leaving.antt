@@ -6,6 +6,7 @@ use native.Mathlib.Nat.{max-le}
 use native.Mathlib.Omega.{arith}
 use lib.ListN.{length, take, drop, replicate, length-replicate}
 use lib.Seq.{length-take-le}
+use Rattle.refusals.proofs.Numbers.{not_zero}
 use Rattle.refusals.proofs.Left.{left_refused, left_accepted}
 use Rattle.buffers.specs.Written.{in_front}
 use Rattle.table.proofs.Tabulate.{tabulate_long}
@@ -15,10 +16,6 @@ use Rattle.count_sheet.specs.Refusals.{value_width, count_refusal}
 use Rattle.count_sheet.specs.Sheet.{counts, sheet_left, scratch_left, log_left}
 use Rattle.count_sheet.specs.Runs.{Countable}
 use Rattle.count_sheet.proofs.Checking.{Accepted, accepted}
-
--- a buffer that was cleared, of a length that is known
-pub zeros_told : (n : ℕ) (before now : List ℕ) → length before ≡ n → now ≡ replicate (length before) 0 → now ≡ replicate n 0
-zeros_told n before now h e = rw (e, h)
 
 -- a part that is lent, where there is room for it
 pub part_is : (size : ℕ) (list : List ℕ) → size ≤ length list → size ≡ length (take size list)
@@ -98,3 +95,23 @@ module _ (p : ProbePair) (table scratch log sheet : List ℕ) (j : ℕ) (told : 
       sheet_filled now e =
           let long : length (counts table p) ≡ size = tabulate_long _ _ ∙ sym b in
           rw (e, ← long) (left_accepted j _ _ _ told z)
+
+-- the lemmas that are found at the call's goals by what they conclude
+pub ruleset buffers_left = (
+  not_zero,
+  part_is,
+  part_long,
+  sheet_kept,
+  scratch_kept,
+  log_kept,
+  taken_countable,
+  input_told,
+  larger_told,
+  bytes_room,
+  entries_room,
+  size_room,
+  size_long,
+  scratch_zeroed,
+  log_zeroed,
+  sheet_filled,
+)

@@ -9,8 +9,8 @@ use native.Mathlib.Omega.{arith}
 use mir.Syntax.{w32}
 use mir.Val.{Fits}
 use lib.ListN.{length, get_or, take, set, length-set}
-use lib.Pow.{pow_pos, shr-shr}
-use lib.Seq.{take-suc, take-suc-set, take_all}
+use lib.Pow.{shr-shr}
+use lib.Seq.{take-suc, take-suc-set}
 use Rattle.counting.specs.Choice.{width, total}
 use Rattle.counting.specs.Numbered.{numbered, choice_of}
 use Rattle.counting.proofs.Append.{total_append, total_front, width_most}
@@ -63,9 +63,6 @@ module _ (p : ProbePair) (widths : List ℕ) (told : widths ≡ map (class_width
   unfolding numbered_case mask_widths
   case_numbered number masks case e f = rw (f, e, told)
 
-pub limit_positive : (w limit : ℕ) → limit ≡ 2 ^ w → 0 < limit
-limit_positive w limit e = rw e (pow_pos w)
-
 module _ (widths : List ℕ) where
   pub one_small : (i : ℕ) → total widths < 32 → get_or widths i 0 < 32
   unfolding width
@@ -100,9 +97,6 @@ module _ (widths : List ℕ) where
         within = omega arith;
       }
 
-  pub summed_ends : (sum i : ℕ) → 6 ≤ i → Summed sum i → sum ≡ total widths
-  summed_ends sum i h s = s.so_far ∙ ap total (take_all i widths (omega (arith, s.six)))
-
   -- what the loop keeps that takes the masks
   pub record Taking (number : ℕ) (masks : List ℕ) (left i : ℕ) : Type 0 where
     pub taken : take i masks ≡ numbered (take i widths) number
@@ -131,7 +125,3 @@ module _ (widths : List ℕ) where
           long = simp length-set t.long;
           within = omega arith;
         }
-
-    pub taking_ends : (masks : List ℕ) (left i : ℕ) → 6 ≤ i → Taking number masks left i → masks ≡ numbered widths number
-    taking_ends masks left i h t =
-        sym (take_all i masks (omega (arith, t.long))) ∙ t.taken ∙ ap (λ ws. numbered ws number) (take_all i widths (omega (arith, t.six)))

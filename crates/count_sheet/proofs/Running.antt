@@ -62,14 +62,7 @@ module _ (p : ProbePair) (table : List ℕ) (t : Countable p table) (number : �
   unfolding value_width
   width_most = max-le t.input t.output
 
-  -- whatever log of that length there is: both positions are in it, and the offset of a count, which takes four bytes, fits
-  module _ (log after : List ℕ) (h : length log ≡ log_length p.method p.n) (same : length after ≡ length log) where
-    pub first_in : p.first < length after
-    first_in = rw (same, h) t.first
-
-    pub second_in : p.second < length after
-    second_in = rw (same, h) t.second
-
+  -- the offset of a count, which takes four bytes, fits
   pub offset_fits : (after : List ℕ) (place : ℕ) → place ≡ place_of p after → Fits w64 (place * 4)
   unfolding place_of value_at
   offset_fits after place q =
@@ -116,3 +109,6 @@ module _ (p : ProbePair) (table : List ℕ) (t : Countable p table) (number : �
         pub counted_one : set sheet place (get_or sheet place 0 + 1) ≡ one_more (place_of p (log_of (numbered_case p number) table)) sheet
         unfolding at one_more
         counted_one = rw place_is
+
+-- the lemmas that are found at a goal of one run by what they conclude
+pub ruleset one_choice = (width_most, offset_fits, place_in, one_fits, counted_one)

@@ -143,7 +143,3 @@ module _ (p : ProbePair) (table : List ℕ) where
   tallied_ends choices scratch log sheet number h c =
       let whole : number ≡ choices = omega (arith, c.within) in
       tabulate_only _ _ sheet c.long (λ e b. c.each e b ∙ rw (whole, c.bits) (sym (count_is c.countable e)))
-
-  pub tallied_long : (choices : ℕ) (scratch log before sheet : List ℕ) (number : ℕ) → before ≡ replicate (2 ^ (2 * value_width p)) 0
-      → Tallied choices scratch log sheet number → length sheet ≡ length before
-  tallied_long choices scratch log before sheet number zeros c = rw zeros (simp length-replicate c.long)

@@ -7,6 +7,7 @@ ghost use Rattle.count_sheet.specs.Refusals.{pair_checks, buffer_checks, sheet_c
 use crate::ProbePair;
 use refusals::Refusal;
 
+#[tactic(auto, using(crate::proofs::Checking::input_most))]
 pub fn refused(
     pair: ProbePair,
     table: &[u8],
@@ -22,6 +23,7 @@ pub fn refused(
 }
 
 // 2 to 7, and 10
+#[tactic(auto, using(crate::proofs::Checking::pair_parts))]
 fn refused_pair(pair: ProbePair, table: &[u8]) -> Result<(), Refusal>
     ensures { refusal_of result ≡ first_of (pair_checks pair table.now) }
 {
@@ -36,6 +38,7 @@ fn refused_pair(pair: ProbePair, table: &[u8]) -> Result<(), Refusal>
 }
 
 // 13 and 14. The width has been checked, so it has a `requires`.
+#[tactic(auto, using(crate::proofs::Checking::at_13, crate::proofs::Checking::at_14, crate::proofs::Checking::at_buffers))]
 fn refused_buffers(pair: ProbePair, scratch: &[u8], log: &[u32]) -> Result<(), Refusal>
     requires { pair.n ≤ 8 }
     ensures { refusal_of result ≡ first_of (buffer_checks pair scratch.now log.now) }
@@ -50,6 +53,7 @@ fn refused_buffers(pair: ProbePair, scratch: &[u8], log: &[u32]) -> Result<(), R
 }
 
 // 15 to 17
+#[tactic(auto, using(crate::proofs::Checking::sheet_parts))]
 fn refused_sheet(pair: ProbePair, sheet: &[u32]) -> Result<(), Refusal>
     ensures { refusal_of result ≡ first_of (sheet_checks pair sheet.now) }
 {

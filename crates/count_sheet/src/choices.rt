@@ -1,5 +1,5 @@
 // The runs of a count: every choice of masks by its number, whose bits are the masks. The call has checked the probes and measured the
-// buffers, so the functions here have a `requires`.
+// buffers, which most functions here require.
 ghost use Rattle.std.specs.Prelude.{◌≡◌, true, ◌+◌, ◌*◌, ◌^◌, ◌≤◌, ◌<◌, length, replicate};
 ghost use Rattle.counting.specs.Choice.{total as choice_total};
 ghost use Rattle.counting.specs.Numbered.{numbered, choice_of};
@@ -15,6 +15,7 @@ use crate::ProbePair;
 use lookup::Case;
 
 // Adds every choice to a sheet of zeros.
+#[tactic(auto, using(crate::proofs::Masks::masks_room, crate::proofs::Masks::bits_room, crate::proofs::Tallying::tallied_begins))]
 pub fn count_all(
     pair: ProbePair,
     table: &[u8],
@@ -34,7 +35,9 @@ pub fn count_all(
     }
 }
 
-// Makes the logged call of one choice, on scratch that is cleared, and counts the values that its log shows.
+// Makes the logged call of one choice, on scratch that is cleared, and counts the values that its log shows. The call is accepted, so
+// its answer tells nothing here.
+#[tactic(auto, using(crate::proofs::Running::one_choice))]
 fn count(
     pair: ProbePair,
     number: u32,
@@ -59,6 +62,7 @@ fn count(
 }
 
 // The case of a choice's number.
+#[tactic(auto, using(crate::proofs::Masks::masks_room, crate::proofs::Masks::case_numbered))]
 fn numbered_case(pair: ProbePair, number: u32) -> Case
     requires method_value { methods_known pair.method ≡ true }
     requires n_bound { (pair.n ≤ 3) × (pair.m ≤ 3) }
@@ -69,6 +73,7 @@ fn numbered_case(pair: ProbePair, number: u32) -> Case
 }
 
 // Where the pair of values that a log shows is counted.
+#[tactic(auto, using(crate::proofs::Places::width_told, crate::proofs::Places::place_told))]
 fn place_of(pair: ProbePair, log: &[u32]) -> usize
     requires pair_bound { value_width pair ≤ 3 }
     requires first_in_bounds { pair.first < length log.now }
@@ -107,6 +112,7 @@ fn chosen_case(pair: ProbePair, masks: [u32; 6]) -> Case
 }
 
 // The masks of a choice by its number: each takes as many of the lowest bits that are left as it is wide.
+#[tactic(auto, using(crate::proofs::Masks::one_small))]
 fn masks(widths: [u32; 6], number: u32) -> [u32; 6]
     requires { choice_total widths < 32 }
     ensures { result ≡ numbered widths number }
@@ -122,6 +128,7 @@ fn masks(widths: [u32; 6], number: u32) -> [u32; 6]
 }
 
 // The widths together.
+#[tactic(auto, using(crate::proofs::Masks::summed_begins, crate::proofs::Masks::summed_fits, crate::proofs::Masks::summed_turns))]
 fn total(widths: [u32; 6]) -> u32
     requires { choice_total widths < 32 }
     ensures { result ≡ choice_total widths }

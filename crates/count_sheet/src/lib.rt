@@ -27,6 +27,7 @@ pub struct ProbePair {
 // Runs every choice of masks, and counts the values at both positions: with k the larger of n and m, the count for u and v goes to
 // u * 2^k + v of the sheet. The runs' scratch and log are zero afterwards. It takes the secret itself, so it is for the
 // bench alone.
+#[tactic(auto, using(crate::proofs::Leaving::buffers_left))]
 pub fn count_sheet(
     pair: ProbePair,
     table: &[u8],
