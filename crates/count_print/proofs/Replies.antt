@@ -52,9 +52,6 @@ module _ (p : ProbePair) (table : List ℕ) (refusal : ℕ)
       few : side ≤ 8
       few = omega (arith, same_side, side_most p small)
 
-      square_most : side * side ≤ 64
-      square_most = mul-le-mul few few
-
       pub lines_room : (output : List ℕ) → length output ≡ 1024 → side * (8 * side + 1) ≤ length output
       lines_room output l =
           let most : side * (8 * side + 1) ≤ 8 * 65 = mul-le-mul {m₂ = 65} few (omega (arith, few)) in
