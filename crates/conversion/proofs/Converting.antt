@@ -2,12 +2,10 @@
 use mathlib.Core.Path.{◌≡◌, refl, sym, ap, ◌∙◌}
 use mathlib.Core.Bool.{Bool, true, false, ◌||◌}
 use mathlib.Core.List.{List, [], ◌∷◌, ◌++◌, map}
-use Prim.Native.Nat.{ℕ, ◌+◌, ◌*◌, ◌≤◌, ◌<◌}
+use Prim.Native.Nat.{ℕ, ◌+◌, ◌*◌, ◌≤◌}
 use native.Mathlib.Nat.{mul-le-mul}
 use native.Mathlib.Omega.{arith}
 use borrow.Author.Tests.{eq-eqb, ne_eqb}
-use mir.Syntax.{w64}
-use mir.Val.{Fits}
 use lib.ListN.{length, take, replicate, length-append}
 use Rattle.std.specs.Prelude.{Option, Some, None}
 use Rattle.std.proofs.lemmas.List.{map-id}
@@ -17,13 +15,12 @@ use Rattle.refusals.proofs.Tests.{any_either}
 use Rattle.buffers.specs.Written.{written, in_front}
 use Rattle.buffers.proofs.Written.{written_more, written_front}
 use Rattle.case_sheet.specs.declared.Edition.{Edition}
-use Rattle.case_sheet.specs.Edition.{four_columns, six_columns}
 use Rattle.case_sheet.specs.Sheet.{numbers_of, table_of, well_formed, lines_of}
 use Rattle.case_sheet.proofs.Sheets.{read_malformed, read_formed, numbers_read, table_lent, entries_few, entries_lent, entries_within}
 use Rattle.log_print.specs.Lines.{line_of, column_of}
 use Rattle.log_print.proofs.Lines.{line_long}
 use Rattle.log_print.proofs.Columns.{column_long}
-use Rattle.conversion.specs.Conversion.{sheet_lines, conversion_checks, conversion_refusal, converted, to_six_columns, to_four_columns}
+use Rattle.conversion.specs.Conversion.{sheet_lines, conversion_checks, conversion_refusal, converted}
 
 -- WHAT REFUSES IT
 -- each list is looked through, as it is
@@ -44,21 +41,9 @@ module _ (columns : ℕ) (numbers table : List ℕ) (few : columns ≤ 6) (ten :
   case_long : length (line_of columns numbers) ≡ 10 * columns + 1
   case_long = line_long columns numbers ∙ ap (λ k. k * columns + 1) ten
 
-  pub case_room : (output : List ℕ) → length output ≡ 2048 → 0 + length numbers * columns < length output
-  case_room output l = omega (arith, line_long columns numbers, case_long)
-
   module _ (entries : length table ≤ 256) where
     lines_most : length table * (columns + 1) ≤ 256 * 7
     lines_most = mul-le-mul {m₂ = 7} entries (omega arith)
-
-    pub table_room : (output : List ℕ) → length output ≡ 2048 → 10 * columns + 1 + length table * (columns + 1) ≤ length output
-    table_room output l = omega (arith, lines_most)
-
-    pub lines_fit : Fits w64 (length table * (columns + 1))
-    lines_fit = record { fits = omega (arith, lines_most) }
-
-    pub sheet_fits : Fits w64 (10 * columns + 1 + length table * (columns + 1))
-    sheet_fits = record { fits = omega (arith, lines_most) }
 
     pub sheet_long : 10 * columns + 1 + length table * (columns + 1) ≡ length (sheet_lines columns numbers table)
     unfolding sheet_lines
@@ -76,15 +61,9 @@ module _ (columns : ℕ) (numbers table : List ℕ) (few : columns ≤ 6) (ten :
 -- THE WHOLE
 -- a refusal's number alone
 module _ (from to : Edition) (input : List ℕ) (refusal : ℕ) (number : conversion_refusal from to input ≡ refusal) (h : refusal ≡ 0 → ⊥) where
-  refused_lines : line_of 6 (refusal ∷ []) ≡ converted from to input
+  refused_lines : converted from to input ≡ line_of 6 (refusal ∷ [])
   unfolding converted
   refused_lines = rw (number, ne_eqb _ 0 h)
-
-  refused_long : {k : ℕ} → k ≡ length (line_of 6 (refusal ∷ [])) → k ≡ length (converted from to input)
-  refused_long e = e ∙ ap length refused_lines
-
-  refused_left : (before now : List ℕ) → now ≡ in_front (line_of 6 (refusal ∷ [])) before → now ≡ in_front (converted from to input) before
-  refused_left before now e = e ∙ ap (λ l. in_front l before) refused_lines
 
 module _ (from to : Edition) (input : List ℕ) {r : Option ℕ} (told : r ≡ lines_of from 10 input) where
   module _ (none : r ≡ None) where
@@ -92,11 +71,8 @@ module _ (from to : Edition) (input : List ℕ) {r : Option ℕ} (told : r ≡ l
     unfolding conversion_refusal conversion_checks first_of
     other_form = rw (read_malformed from 10 input r told none)
 
-    pub malformed_long : {k : ℕ} → k ≡ length (line_of 6 (1 ∷ [])) → k ≡ length (converted from to input)
-    malformed_long e = refused_long from to input 1 other_form (λ z. omega arith) e
-
-    pub malformed_left : (before now : List ℕ) → now ≡ in_front (line_of 6 (1 ∷ [])) before → now ≡ in_front (converted from to input) before
-    malformed_left before now e = refused_left from to input 1 other_form (λ z. omega arith) before now e
+    pub malformed : converted from to input ≡ line_of 6 (1 ∷ [])
+    malformed = refused_lines from to input 1 other_form (λ z. omega arith)
 
   module _ (entries : ℕ) (is : r ≡ Some entries) where
     form : (well_formed from 10 input ≡ true) × (entries ≡ length (table_of from 10 input))
@@ -128,48 +104,17 @@ module _ (from to : Edition) (input : List ℕ) {r : Option ℕ} (told : r ≡ l
           unfolding conversion_refusal conversion_checks first_of
           above = rw (form.0, large ∙ y)
 
-          pub above_long : {k : ℕ} → k ≡ length (line_of 6 (22 ∷ [])) → k ≡ length (converted from to input)
-          above_long e = refused_long from to input 22 above (λ z. omega arith) e
-
-          pub above_left : (before now : List ℕ) → now ≡ in_front (line_of 6 (22 ∷ [])) before → now ≡ in_front (converted from to input) before
-          above_left before now e = refused_left from to input 22 above (λ z. omega arith) before now e
+          pub too_large : converted from to input ≡ line_of 6 (22 ∷ [])
+          too_large = refused_lines from to input 22 above (λ z. omega arith)
 
         module _ (n : t ≡ false) where
           nothing : conversion_refusal from to input ≡ 0
           unfolding conversion_refusal conversion_checks first_of
           nothing = rw (form.0, large ∙ n)
 
-          taken : sheet_lines to.columns numbers (take entries table) ≡ converted from to input
+          pub taken : converted from to input ≡ sheet_lines to.columns numbers (take entries table)
           unfolding converted
           taken = rw (formed_numbers, formed_table, eq-eqb _ 0 nothing)
 
-          pub taken_long : {k : ℕ} → k ≡ length (sheet_lines to.columns numbers (take entries table)) → k ≡ length (converted from to input)
-          taken_long e = e ∙ ap length taken
-
-          pub taken_left : (before now : List ℕ) → now ≡ in_front (sheet_lines to.columns numbers (take entries table)) before
-              → now ≡ in_front (converted from to input) before
-          taken_left before now e = e ∙ ap (λ l. in_front l before) taken
-
--- EACH WAY
-module _ (from to : Edition) (input : List ℕ) where
-  module _ (old : from ≡ four_columns) (new : to ≡ six_columns) where
-    to_six : converted from to input ≡ to_six_columns input
-    unfolding to_six_columns
-    to_six = rw (old, new)
-
-    pub to_six_long : {k : ℕ} → k ≡ length (converted from to input) → k ≡ length (to_six_columns input)
-    to_six_long e = e ∙ ap length to_six
-
-    pub to_six_left : (before now : List ℕ) → now ≡ in_front (converted from to input) before → now ≡ in_front (to_six_columns input) before
-    to_six_left before now e = e ∙ ap (λ l. in_front l before) to_six
-
-  module _ (new : from ≡ six_columns) (old : to ≡ four_columns) where
-    to_four : converted from to input ≡ to_four_columns input
-    unfolding to_four_columns
-    to_four = rw (new, old)
-
-    pub to_four_long : {k : ℕ} → k ≡ length (converted from to input) → k ≡ length (to_four_columns input)
-    to_four_long e = e ∙ ap length to_four
-
-    pub to_four_left : (before now : List ℕ) → now ≡ in_front (converted from to input) before → now ≡ in_front (to_four_columns input) before
-    to_four_left before now e = e ∙ ap (λ l. in_front l before) to_four
+-- what `convert` is proved by
+pub ruleset convert_laws = (malformed, entries_counted, entries_inside, lines_few, too_large, taken)

@@ -11,6 +11,7 @@ use refusals::Refusal;
 
 // Carries a sheet of four columns over to six, in front in the output, and returns the count of bytes; or 1 alone, for what is no such sheet.
 // The longest sheet of six columns has 1,853 bytes.
+#[tactic(auto, unfolding(crate::specs::Conversion::to_six_columns))]
 pub fn to_six_columns(input: &[u8], output: &mut [u8; 2048]) -> usize
     ensures value { result ≡ length (conversion_to_six_columns input.now) }
     ensures output_after { output.new ≡ in_front (conversion_to_six_columns input.now) output.old }
@@ -21,6 +22,7 @@ pub fn to_six_columns(input: &[u8], output: &mut [u8; 2048]) -> usize
 }
 
 // Carries a sheet of six columns over to four, likewise; or 1 alone, or 22 alone where a number is above 255.
+#[tactic(auto, unfolding(crate::specs::Conversion::to_four_columns))]
 pub fn to_four_columns(input: &[u8], output: &mut [u8; 2048]) -> usize
     ensures value { result ≡ length (conversion_to_four_columns input.now) }
     ensures output_after { output.new ≡ in_front (conversion_to_four_columns input.now) output.old }
@@ -31,6 +33,7 @@ pub fn to_four_columns(input: &[u8], output: &mut [u8; 2048]) -> usize
 }
 
 // The columns of both editions are few, so that lengths fit and the output is long enough: hence the `requires`.
+#[tactic(auto, using(crate::proofs::Converting::convert_laws))]
 fn convert(input: &[u8], from: Edition, to: Edition, output: &mut [u8; 2048]) -> usize
     requires { (from.columns ≤ 256) × (0 < to.columns) × (to.columns ≤ 6) }
     ensures value { result ≡ length (converted from to input.now) }
@@ -49,6 +52,7 @@ fn convert(input: &[u8], from: Edition, to: Edition, output: &mut [u8; 2048]) ->
 }
 
 // Whether a number of the case line or of the table is above the largest.
+#[tactic(auto, using(crate::proofs::Converting::first_above, crate::proofs::Converting::rest_above))]
 fn any_above(most: u16, numbers: &[u32], table: &[u32]) -> bool
     ensures { result ≡ any_from (most + 1) (numbers.now ++ table.now) }
 {
@@ -57,6 +61,7 @@ fn any_above(most: u16, numbers: &[u32], table: &[u32]) -> bool
 }
 
 // The lines of a sheet in front in the output. Returns the count of bytes.
+#[tactic(auto, using(crate::proofs::Converting::sheet_long, crate::proofs::Converting::sheet_left))]
 fn put_sheet(output: &mut [u8; 2048], columns: usize, numbers: &[u32], table: &[u32]) -> usize
     requires { (0 < columns) × (columns ≤ 6) × (length numbers.now ≡ 10) × (length table.now ≤ 256) }
     ensures value { result ≡ length (sheet_lines columns numbers.now table.now) }

@@ -7,7 +7,10 @@ use native.Mathlib.Omega.{arith}
 use borrow.Author.Tests.{ne_eqb}
 use lib.Dec.{leb}
 use lib.ListN.{length, take, replicate}
-use Rattle.std.specs.Prelude.{Option, Some, None}
+use Rattle.std.specs.Prelude.{Option, Some, None, Result, Err}
+use Rattle.refusals.specs.declared.Refusal.{Refusal}
+use Rattle.refusals.specs.Numbers.{number_of, refusal_of}
+use Rattle.refusals.proofs.Numbers.{not_zero}
 use Rattle.refusals.specs.Checks.{Check, ◌when◌, first_of}
 use Rattle.buffers.specs.Written.{in_front}
 use Rattle.wide_table.specs.Wide.{wide, method_and_table, wide_refusal}
@@ -35,7 +38,7 @@ wide_pair : (p : ProbePair) (table : List ℕ) → (wide_refusal p.method p.n p.
 unfolding print_refusal count_refusal
 wide_pair p table h = wide_first p.method p.n p.m table _ h ∙ ap first_of (checks_behind p table _ _)
 
-refusal_line : (p : ProbePair) (table : List ℕ) (k : ℕ) → (k ≡ 0 → ⊥) → k ≡ print_refusal p table → line_of 6 (k ∷ []) ≡ reply p table
+refusal_line : (p : ProbePair) (table : List ℕ) (k : ℕ) → (k ≡ 0 → ⊥) → k ≡ print_refusal p table → reply p table ≡ line_of 6 (k ∷ [])
 unfolding reply
 refusal_line p table k h e = rw (e, ne_eqb (print_refusal p table) 0 (λ z. h (e ∙ z)))
 
@@ -45,15 +48,9 @@ module _ (edition : Edition) (six : edition ≡ six_columns) (input : List ℕ) 
 
   -- another form
   module _ (none : r ≡ None) where
-    other_print : line_of 6 (1 ∷ []) ≡ print input
+    pub other_print : print input ≡ line_of 6 (1 ∷ [])
     unfolding print
     other_print = rw (read_malformed six_columns 6 input r lines none)
-
-    pub other_long : {k : ℕ} → k ≡ length (line_of 6 (1 ∷ [])) → k ≡ length (print input)
-    other_long e = e ∙ ap length other_print
-
-    pub other_left : (before now : List ℕ) → now ≡ in_front (line_of 6 (1 ∷ [])) before → now ≡ in_front (print input) before
-    other_left before now e = e ∙ ap (λ l. in_front l before) other_print
 
   -- the right form
   module _ (entries : ℕ) (is : r ≡ Some entries) where
@@ -82,7 +79,7 @@ module _ (edition : Edition) (six : edition ≡ six_columns) (input : List ℕ) 
 
       module _ (numbers : List ℕ) (listed : numbers ≡ in_front (numbers_of edition 6 input) (replicate 6 0)) (p : ProbePair)
           (pair : p ≡ pair_read numbers) where
-        answer : reply p (take entries table) ≡ print input
+        answer : print input ≡ reply p (take entries table)
         unfolding print
         answer =
             let taken : numbers ≡ numbers_of six_columns 6 input
@@ -90,28 +87,24 @@ module _ (edition : Edition) (six : edition ≡ six_columns) (input : List ℕ) 
             rw (table_lent six_columns 6 input old table read entries formed.1, pair, taken, formed.0)
 
         -- refused for an entry above 255
-        module _ (w : ℕ) (looked : w ≡ wide_refusal p.method p.n p.m (take entries table)) (h : w ≡ 0 → ⊥) where
-          wide_print : line_of 6 (w ∷ []) ≡ print input
+        module _ {A : Type 0} (seen : Result A Refusal) (looked : refusal_of seen ≡ wide_refusal p.method p.n p.m (take entries table))
+            (refusal : Refusal) (found : seen ≡ Err refusal) where
+          pub wide_print : print input ≡ line_of 6 (number_of refusal ∷ [])
           wide_print =
-              let number : w ≡ print_refusal p (take entries table) = looked ∙ wide_pair p (take entries table) (λ z. h (looked ∙ z)) in
-              refusal_line p (take entries table) w h number ∙ answer
-
-          pub wide_long : {k : ℕ} → k ≡ length (line_of 6 (w ∷ [])) → k ≡ length (print input)
-          wide_long e = e ∙ ap length wide_print
-
-          pub wide_left : (before now : List ℕ) → now ≡ in_front (line_of 6 (w ∷ [])) before → now ≡ in_front (print input) before
-          wide_left before now e = e ∙ ap (λ l. in_front l before) wide_print
+              let same : number_of refusal ≡ wide_refusal p.method p.n p.m (take entries table) = rw found at looked in
+              let some = not_zero refusal in
+              let number : number_of refusal ≡ print_refusal p (take entries table)
+              = same ∙ wide_pair p (take entries table) (λ z. some (same ∙ z)) in
+              answer ∙ refusal_line p (take entries table) _ some number
 
         module _ (zeros bytes : List ℕ) (narrowed : bytes ≡ in_front (take entries table) zeros) where
-          answered : reply p (take entries bytes) ≡ print input
-          answered = ap (reply p) (bytes_taken (take entries table) zeros bytes narrowed entries table_counted) ∙ answer
-
-          pub answer_long : {k : ℕ} → k ≡ length (reply p (take entries bytes)) → k ≡ length (print input)
-          answer_long e = e ∙ ap length answered
-
-          pub answer_left : (before now : List ℕ) → now ≡ in_front (reply p (take entries bytes)) before → now ≡ in_front (print input) before
-          answer_left before now e = e ∙ ap (λ l. in_front l before) answered
+          pub answered : print input ≡ reply p (take entries bytes)
+          answered = answer ∙ ap (reply p) (sym (bytes_taken (take entries table) zeros bytes narrowed entries table_counted))
 
 -- each entry is a byte
 pub not_wide : (p : ProbePair) (table : List ℕ) → 0 ≡ wide_refusal p.method p.n p.m table → wide table ≡ false
 not_wide p table looked = none_wide p.method p.n p.m table (sym looked)
+
+-- what `print` is proved by
+pub ruleset print_laws =
+    (other_print, table_counted, table_within, bytes_room, bytes_counted, bytes_within, wide_print, not_wide, answered)

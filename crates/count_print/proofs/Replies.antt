@@ -8,6 +8,9 @@ use borrow.Author.Tests.{eq-eqb, ne_eqb}
 use lib.ListN.{length, take, replicate, length-take}
 use lib.Seq.{take_at}
 use Rattle.buffers.specs.Written.{in_front}
+use Rattle.refusals.specs.declared.Refusal.{Refusal}
+use Rattle.refusals.specs.Numbers.{number_of}
+use Rattle.refusals.proofs.Numbers.{not_zero}
 use Rattle.refusals.specs.Left.{left}
 use Rattle.table.proofs.Tabulate.{tabulate_long}
 use Rattle.log_print.specs.Lines.{line_of, count_lines}
@@ -19,20 +22,15 @@ use Rattle.count_sheet.proofs.Places.{squared}
 use Rattle.count_print.specs.Print.{print_refusal, reply}
 use Rattle.count_print.proofs.Refusals.{width_small, side_most}
 
+-- refused
+pub refused : (p : ProbePair) (table : List ℕ) (refusal : Refusal)
+    → number_of refusal ≡ count_refusal p table (replicate 512 0) (replicate 2400 0) (replicate 64 0)
+    → reply p table ≡ line_of 6 (number_of refusal ∷ [])
+unfolding reply print_refusal
+refused p table refusal told = rw (← told, ne_eqb _ 0 (not_zero refusal))
+
 module _ (p : ProbePair) (table : List ℕ) (refusal : ℕ)
     (told : refusal ≡ count_refusal p table (replicate 512 0) (replicate 2400 0) (replicate 64 0)) where
-  -- refused
-  module _ (h : refusal ≡ 0 → ⊥) where
-    refused : line_of 6 (refusal ∷ []) ≡ reply p table
-    unfolding reply print_refusal
-    refused = rw (told, ne_eqb _ 0 (λ z. h (told ∙ z)))
-
-    pub refused_long : {k : ℕ} → k ≡ length (line_of 6 (refusal ∷ [])) → k ≡ length (reply p table)
-    refused_long e = e ∙ ap length refused
-
-    pub refused_left : (before now : List ℕ) → now ≡ in_front (line_of 6 (refusal ∷ [])) before → now ≡ in_front (reply p table) before
-    refused_left before now e = e ∙ ap (λ l. in_front l before) refused
-
   -- accepted
   module _ (z : refusal ≡ 0) (width : ℕ) (wide : width ≡ max p.n p.m) where
     small : value_width p ≤ 3
@@ -53,9 +51,6 @@ module _ (p : ProbePair) (table : List ℕ) (refusal : ℕ)
 
       few : side ≤ 8
       few = omega (arith, same_side, side_most p small)
-
-      square_most : side * side ≤ 64
-      square_most = mul-le-mul few few
 
       pub lines_room : (output : List ℕ) → length output ≡ 1024 → side * (8 * side + 1) ≤ length output
       lines_room output l =
@@ -81,13 +76,9 @@ module _ (p : ProbePair) (table : List ℕ) (refusal : ℕ)
         pub lent_square : length (take (side * side) sheet) ≡ side * side
         lent_square = sym square_lent
 
-        answered : count_lines side side (take (side * side) sheet) ≡ reply p table
+        pub answered : reply p table ≡ count_lines side side (take (side * side) sheet)
         unfolding reply print_refusal
         answered = rw (counts_lent, same_side, eq-eqb _ 0 (sym told ∙ z))
 
-        pub answered_long : {k : ℕ} → k ≡ length (count_lines side side (take (side * side) sheet)) → k ≡ length (reply p table)
-        answered_long e = e ∙ ap length answered
-
-        pub answered_left : (before now : List ℕ) → now ≡ in_front (count_lines side side (take (side * side) sheet)) before
-            → now ≡ in_front (reply p table) before
-        answered_left before now e = e ∙ ap (λ l. in_front l before) answered
+-- what `reply` is proved by
+pub ruleset reply_laws = (refused, power_known, lines_room, square_lent, square_within, lent_square, answered)

@@ -9,6 +9,7 @@ use count_sheet::ProbePair;
 use refusals::Refusal;
 
 // Prints the answer to the input in front in the output, and returns the count of its bytes. The output is long enough for any answer.
+#[tactic(auto, using(crate::proofs::Prints::print_laws))]
 pub fn print(input: &[u8], output: &mut [u8; 1024]) -> usize
     ensures value { result ≡ length (print_print input.now) }
     ensures output_after { output.new ≡ in_front (print_print input.now) output.old }
@@ -47,6 +48,7 @@ fn pair_from(numbers: [u32; 6]) -> ProbePair
 }
 
 // The answer to a pair. Scratch and log are long enough for any table that is let in, sheet and output for n and m up to 3.
+#[tactic(auto, using(crate::proofs::Replies::reply_laws))]
 fn reply(pair: ProbePair, table: &[u8], output: &mut [u8; 1024]) -> usize
     ensures value { result ≡ length (print_reply pair table.now) }
     ensures output_after { output.new ≡ in_front (print_reply pair table.now) output.old }

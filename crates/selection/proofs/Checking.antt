@@ -135,3 +135,10 @@ module _ (s : Selection) where
 
       pub at_none : 28 ≤ length lent → 0 ≡ select_refusal s lent
       at_none h = behind_21 (goes 14 _ (le-ltb _ _ h) none_applies)
+
+-- what the three checks of 21 are proved by
+pub ruleset word_laws = (wide_z0, wide_z1, wide_z2, narrow_words)
+
+pub ruleset bit_laws = (two_fits, wide_c0, wide_c1, wide_c2, wide_b, narrow_bits)
+
+pub ruleset mask_laws = (wide_t1, wide_t2, narrow_masks)

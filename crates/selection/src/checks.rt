@@ -20,6 +20,7 @@ pub fn refused(selection: Selection) -> Result<(), Refusal>
 }
 
 // The width has been checked, so it has a `requires`.
+#[tactic(auto, using(crate::proofs::Checking::word_laws))]
 fn refused_words(selection: Selection) -> Result<(), Refusal>
     requires { selection.width ≤ 8 }
     ensures { refusal_of result ≡ first_of (word_checks selection) }
@@ -38,6 +39,7 @@ fn refused_words(selection: Selection) -> Result<(), Refusal>
 }
 
 // The limit comes through a barrier: where the compiler knows it to be 2, it compares c1 | c2 | b with it at once. t1 is the index.
+#[tactic(auto, using(crate::proofs::Checking::bit_laws))]
 fn refused_bits(selection: Selection) -> Result<(), Refusal>
     ensures { refusal_of result ≡ first_of (bit_checks selection) }
 {
@@ -58,6 +60,7 @@ fn refused_bits(selection: Selection) -> Result<(), Refusal>
 }
 
 // The width has been checked, so it has a `requires`.
+#[tactic(auto, using(crate::proofs::Checking::mask_laws))]
 fn refused_masks(selection: Selection) -> Result<(), Refusal>
     requires { selection.width ≤ 8 }
     ensures { refusal_of result ≡ first_of (mask_checks selection) }

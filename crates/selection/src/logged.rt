@@ -28,6 +28,7 @@ pub fn run(checked: BoundedSelection, log: &mut [u32; 28]) -> HalfShares
     put_shares(checked, log)
 }
 
+#[tactic(auto, using(crate::proofs::Logging::inputs_written))]
 fn put_inputs(checked: BoundedSelection, log: &mut [u32; 28])
     ensures { log.new ≡ written log.old 0 (input_entries checked.selection) }
 {
@@ -35,6 +36,7 @@ fn put_inputs(checked: BoundedSelection, log: &mut [u32; 28])
     put_bits(checked, log);
 }
 
+#[tactic(auto, using(crate::proofs::Logging::halves_written))]
 fn put_halves(checked: BoundedSelection, log: &mut [u32; 28])
     ensures { log.new ≡ written log.old 11 (half_entries checked.selection) }
 {
@@ -44,6 +46,7 @@ fn put_halves(checked: BoundedSelection, log: &mut [u32; 28])
 }
 
 // Words have up to sixteen bits; all other values are bytes.
+#[tactic(auto, using(crate::proofs::Logging::three_written))]
 fn put_words(checked: BoundedSelection, log: &mut [u32; 28])
     ensures { log.new ≡ written log.old 0
         (entries (1 ∷ 2 ∷ 3 ∷ []) (checked.selection.z0 ∷ checked.selection.z1 ∷ checked.selection.z2 ∷ [])) }
@@ -80,6 +83,7 @@ fn put_half(
 }
 
 // The values of `put_bits`, in the order of the log.
+#[tactic(auto, using(halves::proofs::Bounds::place_byte, crate::proofs::Logging::bits_of))]
 fn bit_values(checked: BoundedSelection) -> [u8; 8]
     ensures { result ≡ log_bit_values checked.selection }
 {
@@ -97,6 +101,7 @@ fn bit_values(checked: BoundedSelection) -> [u8; 8]
 }
 
 // The values of `put_half`, in the order of the log.
+#[tactic(auto, using(crate::proofs::Logging::values_of))]
 fn half_values(checked: BoundedSelection, bit: u32) -> [u8; 7]
     requires bit_bound { bit < 2 }
     ensures { result ≡ log_half_values checked.selection bit }
@@ -118,6 +123,7 @@ fn half_values(checked: BoundedSelection, bit: u32) -> [u8; 7]
 }
 
 // The shares of the half, by the run without a log, and what the call hands back.
+#[tactic(auto, using(crate::proofs::Logging::shares_written, crate::proofs::Logging::shares_handed))]
 fn put_shares(checked: BoundedSelection, log: &mut [u32; 28]) -> HalfShares
     ensures value { handed_selection (Ok result) ≡ selected 0 (share 0 checked.selection) (share 1 checked.selection) (share 2 checked.selection) }
     ensures log_after { log.new ≡ written log.old 25 (share_entries checked.selection) }

@@ -1,12 +1,9 @@
 -- `selection::plain_select` meets its contract.
 use mathlib.Core.Path.{refl}
-use Rattle.refusals.proofs.Numbers.{not_zero, handed_on}
+use Rattle.refusals.proofs.Numbers.{not_zero}
 use Rattle.selection.proofs.Accepted.{told_bounded}
 use Rattle.selection.proofs.Replies.{share_refused, share_accepted}
 use Rattle.selection.proofs.plain_select.Goals as goal
-
-pub returns-in_err-refused-clause-value : goal.returns-in_err-refused-clause-value
-returns-in_err-refused-clause-value c = rw (handed_on _ _ c.from_residual.ensures.1) c.in_err-refused.ensures
 
 pub returns-in_err-refused-clause-share0_after : goal.returns-in_err-refused-clause-share0_after
 returns-in_err-refused-clause-share0_after c = share_refused _ _ c.in_err-refused.ensures 0 _ (not_zero _)
@@ -19,9 +16,6 @@ returns-in_err-refused-clause-share2_after c = share_refused _ _ c.in_err-refuse
 
 pub run-requires : goal.run-requires
 run-requires c = told_bounded _ c.in_ok-refused.ensures
-
-pub returns-clause-value : goal.returns-clause-value
-returns-clause-value c = c.in_ok-refused.ensures
 
 pub returns-clause-share0_after : goal.returns-clause-share0_after
 returns-clause-share0_after c = share_accepted _ _ c.in_ok-refused.ensures 0 _ _ refl c.run.ensures.share0_after
