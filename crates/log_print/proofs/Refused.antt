@@ -3,7 +3,6 @@ use mathlib.Core.Path.{◌≡◌, refl}
 use mathlib.Core.List.{List, [], ◌∷◌}
 use Prim.Native.Nat.{ℕ, zero, suc, ◌≤◌}
 use lib.ListN.{length}
-use Rattle.buffers.specs.Written.{in_front}
 use Rattle.log_print.specs.Lines.{line_of, unless_refused}
 use Rattle.log_print.proofs.Lines.{line_long}
 
@@ -29,10 +28,3 @@ pub unless_refused_most : (most refusal : ℕ) (lines : List ℕ) → 7 ≤ most
 unfolding unless_refused
 unless_refused_most most zero lines room h = h refl
 unless_refused_most most (suc k) lines room h = rw (line_long 6 (suc k ∷ [])) room
-
--- the line of a number that is known, as a print of it told
-pub number_long : {n m k : ℕ} → n ≡ m → k ≡ length (line_of 6 (n ∷ [])) → k ≡ length (line_of 6 (m ∷ []))
-number_long d e = rw d at e
-
-pub number_left : {n m : ℕ} (before now : List ℕ) → n ≡ m → now ≡ in_front (line_of 6 (n ∷ [])) before → now ≡ in_front (line_of 6 (m ∷ [])) before
-number_left before now d e = rw d at e
