@@ -40,8 +40,9 @@ struct Buffers<'a> {
     log: &'a [u32],
 }
 
-// Both lookups. As the logged call it is for the bench: it returns the second answer share and the counts of both logs' entries. All checks of
-// both come before anything is written. Both scratches must begin with zeros, and are left used: the caller clears them (`buffers::clear`).
+// Both lookups. As the logged call it is for the bench: it returns the second answer share and the counts of both logs' entries. All
+// checks of both come before anything is written. Both scratches must begin with zeros, and are left used: the caller clears them
+// (`buffers::clear`).
 #[tactic(auto, using(crate::proofs::Replies::replies))]
 pub fn chained_call(
     first: Case,

@@ -4,7 +4,8 @@ use Rattle.chain.proofs.Replies.{refused_reply, both_answered, second_scratch_le
 use Rattle.chain.proofs.chained_call.Goals as goal
 
 pub returns-in_err-refused-clause-value : goal.returns-in_err-refused-clause-value
-returns-in_err-refused-clause-value c = rw (handed_on _ _ c.from_residual.ensures.1) (search (refused_reply, not_zero, c.in_err-refused.ensures))
+returns-in_err-refused-clause-value c =
+    rw (handed_on _ _ c.from_residual.ensures.1) (search (refused_reply, not_zero, c.in_err-refused.ensures))
 
 pub returns-clause-value : goal.returns-clause-value
 returns-clause-value c = search (both_answered, c.in_ok-refused.ensures)

@@ -4,7 +4,8 @@ use Rattle.count_sheet.proofs.Checking.{pair_refused, buffers_refused, sheet_ref
 use Rattle.count_sheet.proofs.checks.refused.Goals as goal
 
 pub returns-in_err-refused_pair : goal.returns-in_err-refused_pair
-returns-in_err-refused_pair c = rw (handed_on _ _ c.from_residual.ensures.1) (search (pair_refused, not_zero, c.in_err-refused_pair.ensures))
+returns-in_err-refused_pair c =
+    rw (handed_on _ _ c.from_residual.ensures.1) (search (pair_refused, not_zero, c.in_err-refused_pair.ensures))
 
 pub returns-in_err-refused_buffers : goal.returns-in_err-refused_buffers
 returns-in_err-refused_buffers c =
