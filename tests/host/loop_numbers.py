@@ -1,6 +1,6 @@
 # Holds the number of each loop over a table, its scratch or its counts to 16 bits. No contract can see that: a wider number would be proved
-# too. The code of the libraries is read that the archives stand on (mir.py), where every number has its width, and the source of the
-# archives' own functions, of which rt keeps no such code: they have no loop.
+# too. The code of the libraries is read that the archives stand on, and that of the kit's own library which they call (mir.py), where every
+# number has its width, and the source of the archives' own functions, of which rt keeps no such code: they have no loop.
 # Run: python3 tests/host/loop_numbers.py MIR SOURCE.., what mir.py prints and the sources of the archives. The status is 0 if every loop is
 # as it must be.
 import json
@@ -31,20 +31,13 @@ OTHERS = {
     "log_entries::put": "the kinds and values of a row, slices of any length",
     "frame_rounds::ten": "the rounds",
     "screening::fed": "a run of any length",
-}
-
-# What is called of the kit's own library, whose code is not read, and what its loop goes over.
-OF_CORE = {
+    # of the kit's own library
     "core::slice::edits::slice+T::fill": "a buffer of any length",
     "core::iter::base::Iterator::any": "numbers of any length, in no archive",
-    "core::fmt::formatter::Formatter::derived_name": "the name of a refusal, in no archive",
-    "core::iter::slices::slice+T::iter": "nothing: it has no loop",
-    "core::slice::chunk_mut::slice+T::first_chunk_mut": "nothing: it has no loop",
-    "core::convert::U32FromU8::from": "nothing: it has no loop",
-    "core::option::Option::is_some": "nothing: it has no loop",
-    "core::option::Option::unwrap": "nothing: it has no loop",
-    "core::result::ResultTry::branch": "nothing: it has no loop",
-    "core::result::ResultFromResidualErrResidual::from_residual": "nothing: it has no loop",
+    "core::fmt::builders::derived::end_of_word": "the name of a refusal, in no archive",
+    "core::fmt::formatter::Formatter::write_indent": "the same",
+    "core::fmt::formatter::Formatter::write_indented": "the same",
+    "core::fmt::utf8::is_utf8": "the same",
 }
 
 
@@ -129,8 +122,7 @@ def complaints(functions):
     for name, function in functions.items():
         if name in called(function):
             yield f"{name}: it calls itself"
-        unread = called(function) - functions.keys() - OF_CORE.keys()
-        yield from (f"{name}: it calls {other}, which is not read" for other in sorted(unread))
+        yield from (f"{name}: it calls {other}, which is not read" for other in sorted(called(function) - functions.keys()))
         for loop in loops(tree(function["body"])):
             looping.add(name)
             if name in OVER_TABLES and not has_number_of_16_bits(loop):

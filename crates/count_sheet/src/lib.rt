@@ -81,7 +81,7 @@ fn sheet_length(n: u32, m: u32) -> usize
     bits::power(2 * larger(n, m)) as usize
 }
 
-// k, `value_width` of the definitions. It is for the print too.
+// k, `value_width` of the definitions.
 pub fn larger(n: u32, m: u32) -> u32
     ensures { result ≡ max n m }
 {
