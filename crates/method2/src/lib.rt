@@ -33,12 +33,14 @@ fn fill(lookup: Lookup, scratch: &mut [u8])
     requires n_in_bounds { 2 ^ lookup.case.n ≤ length scratch.old }
     ensures { scratch.new ≡ scratch_2 (Q lookup.entry.case) lookup.entry.case lookup.entry.table.now scratch.old }
 {
-    let turns = bits::power(lookup.case.n) as u16;
+    let case = lookup.case;
+    let table = lookup.table;
+    let turns = bits::power(case.n) as u16;
     let first = r_prime(lookup);
-    let zero = lookup::unknown_zero(lookup.case.r3);
+    let zero = lookup::unknown_zero(case.r3);
     for a in 0..turns {
         let to = a as usize ^ first;
-        lookup::put_masked_entry(lookup.case, lookup.table, a, scratch, to, zero);
+        lookup::put_masked_entry(case, table, a, scratch, to, zero);
     }
 }
 
