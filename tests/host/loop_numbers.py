@@ -29,10 +29,11 @@ OVER_TABLES = {
 OTHERS = {
     "table::fitness::all_periods": "the bits of a value",
     "log_entries::put": "the kinds and values of a row, slices of any length",
+    "buffers::clear": "a buffer of any length",
+    "buffers::clear_numbers": "a buffer of any length, in no archive",
     "frame_rounds::ten": "the rounds",
     "screening::fed": "a run of any length",
     # of the kit's own library
-    "core::slice::edits::slice+T::fill": "a buffer of any length",
     "core::iter::base::Iterator::any": "numbers of any length, in no archive",
     "core::fmt::builders::derived::end_of_word": "the name of a refusal, in no archive",
     "core::fmt::formatter::Formatter::write_indent": "the same",

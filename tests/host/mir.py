@@ -1,6 +1,6 @@
-# Prints the code of every library that an archive for C stands on, as rt compiles it, a line of JSON for each library; the last line has what
-# these call of the kit's own libraries, and all that this calls in turn. rt keeps this MIR with a library, in which every number has its
-# width. Run: python3 tests/host/mir.py, after `make lib` and the like. The status is 1 if the MIR of a library is missing.
+# Prints the code of every library that an archive for C stands on, as rt compiles it, a line of JSON for each library; the last line has
+# what these call of the kit's own libraries, and all that this calls in turn. rt keeps this MIR with a library, in which every number has
+# its width. Run: python3 tests/host/mir.py, after `make lib` and the like. The status is 1 if the MIR of a library is missing.
 import json
 import re
 import subprocess
