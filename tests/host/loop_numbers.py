@@ -41,6 +41,14 @@ OTHERS = {
     "core::fmt::utf8::is_utf8": "the same",
 }
 
+# The functions that call a method of a type that is handed to them, and which. What is handed to them is read where it is handed.
+THROUGH_A_BOUND = {
+    "refusals::fn::any_number_from::any": "a number's value",
+    "core::iter::base::Iterator::any": "the next item, the test of it, and what drops both",
+    "core::result::ResultFromResidualErrResidual::from_residual": "the refusal as it is",
+    "core::fmt::formatter::Formatter::write_raw": "what is written to",
+}
+
 
 # A function's statements as a tree, from the list that has each of them before those that it is made of.
 def tree(statements):
@@ -113,8 +121,13 @@ def has_number_of_16_bits(loop):
     return steps(loop) == [[{"Add": "Unsigned"}, compared(loop), {"Int": {"width": 16, "value": 1}}]]
 
 
+# What is called, and what is handed on with a type: the methods of each impl.
 def called(function):
-    return {name for name, _ in parts(function, "Fn")}
+    return {name for name, _ in parts(function, "Fn")} | {name for methods in parts(function, "methods") for name in methods}
+
+
+def calls_through_a_bound(function):
+    return any("Method" in call[0] for call in parts(function["body"], "Call"))
 
 
 # Of the libraries' functions, by their names.
@@ -124,6 +137,8 @@ def complaints(functions):
         if name in called(function):
             yield f"{name}: it calls itself"
         yield from (f"{name}: it calls {other}, which is not read" for other in sorted(called(function) - functions.keys()))
+        if calls_through_a_bound(function) and name not in THROUGH_A_BOUND:
+            yield f"{name}: it calls a method of a type that is handed to it, and is not listed"
         for loop in loops(tree(function["body"])):
             looping.add(name)
             if name in OVER_TABLES and not has_number_of_16_bits(loop):

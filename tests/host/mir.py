@@ -1,5 +1,5 @@
 # Prints the code of every library that an archive for C stands on, as rt compiles it, a line of JSON for each library; the last line has
-# what these call of the kit's own libraries, and all that this calls in turn. rt keeps this MIR with a library, in which every number has
+# what these call of the kit's own libraries, or hand on with a type, and all that this calls in turn. rt keeps this MIR with a library, in which every number has
 # its width. Run: python3 tests/host/mir.py, after `make lib` and the like. The status is 1 if the MIR of a library is missing.
 import json
 import re
@@ -28,11 +28,12 @@ def libraries(archives, below):
     return sorted(found)
 
 
-# The names of the functions that a term calls, at any depth.
+# The names of the functions that a term calls at any depth, and of those that it hands on with a type, in an impl's list.
 def called(term):
     if isinstance(term, dict):
         if "Fn" in term:
             yield term["Fn"][0]
+        yield from term.get("methods", [])
         term = list(term.values())
     if isinstance(term, list):
         for piece in term:
